@@ -1,0 +1,27 @@
+use mathlib.Core.Path.{_≡_, sym, _∙_, ap}
+use Prim.Native.Nat.{_<_, _≤_}
+use native.Mathlib.Omega.{arith}
+use lib.ListN.{length, getD, set}
+use Rattle.std.proofs.shelf.Tests.{le-ltb, cond-false}
+use Rattle.std.proofs.shelf.Ways.{tells}
+use Rattle.awd_source.proofs.Pasted.{copied-more, copied-all}
+use Rattle.awd_source.proofs.copies.copy.Needs as need
+
+pub loop-at-again : need.loop-at-again
+loop-at-again g c =
+    let bs = g .S·Source .bytes (c .args .source .now) in
+    let i = c .loop-at .at in
+    let h : i < length bs = omega arith in
+    let k : i < length (c .args .buffer .now) = omega arith in
+    let e : c .in-Some .b ≡ getD bs i 0 = grind (arith, tells) in
+    ap (λ x. set x i (c .in-Some .b)) (c .loop-at .inv) ∙ rw e (copied-more bs (c .args .buffer .now) i h k)
+
+pub returns : need.returns
+returns g c =
+    let bs = g .S·Source .bytes (c .args .source .now) in
+    let h : length bs ≤ length (c .args .buffer .now) = omega arith in
+    let n : c .loop-at .at ≡ length bs = omega arith in
+    record {
+      answer = sym (cond-false _ _ _ (le-ltb (length (c .args .buffer .now)) (length bs) h));
+      after = c .loop-at .inv ∙ copied-all bs (c .args .buffer .now) (c .loop-at .at) n h
+    }
