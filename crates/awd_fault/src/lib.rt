@@ -1,10 +1,8 @@
 // What a refusal says: its cause, the place of the first fault, the block, the layer and the entry.
 // This crate knows nothing of bytes, sources or sessions.
-ghost use lib.Chars.{codes};
 ghost use mathlib.Core.Path.{_≡_};
-ghost use Prim.Native.Nat.{ℕ};
 ghost use Rattle.std.specs.declared.option.Option.the-variants.{Some};
-ghost use Rattle.awd_fault.specs.Faults.{causeNumber, layerNumber, Report, report, inHeader, ofCall};
+ghost use Rattle.awd_fault.specs.Faults.{causeNumber, layerNumber, report, inHeader, ofCall};
 ghost use Rattle.awd_fault.specs.Texts.{causeText};
 use std::fmt;
 
@@ -144,5 +142,21 @@ impl Fault {
         ensures { λ r. ⌜ report r ≡ ofCall (causeNumber cause) place block ⌝ }
     {
         Fault { cause, place, block, layer: Layer::Call, index: None }
+    }
+}
+
+// For a log: the cause in words, then all that the fault holds.
+pub impl fmt::Display for Fault as FaultDisplay {
+    fn fmt<W: fmt::Write>(&self, f: &mut fmt::Formatter<W>) -> fmt::Result {
+        let text = self.cause.text();
+        let cause = self.cause.number();
+        let place = self.place;
+        let block = self.block;
+        let layer = self.layer.number();
+        write!(f, "{text} (cause {cause}, place {place}, block {block}, layer {layer}")?;
+        if let Some(index) = self.index {
+            write!(f, ", entry {index}")?;
+        }
+        write!(f, ")")
     }
 }

@@ -1,0 +1,2 @@
+pub mod Header
+pub mod Widths
