@@ -134,14 +134,26 @@ impl Fault {
     pub fn in_header(cause: Cause, place: u64) -> Fault
         ensures { λ r. ⌜ report r ≡ inHeader (causeNumber cause) place ⌝ }
     {
-        Fault { cause, place, block: 0, layer: Layer::DocumentHeader, index: None }
+        Fault {
+            cause,
+            place,
+            block: 0,
+            layer: Layer::DocumentHeader,
+            index: None,
+        }
     }
 
     // A fault of a call.
     pub fn of_call(cause: Cause, place: u64, block: u64) -> Fault
         ensures { λ r. ⌜ report r ≡ ofCall (causeNumber cause) place block ⌝ }
     {
-        Fault { cause, place, block, layer: Layer::Call, index: None }
+        Fault {
+            cause,
+            place,
+            block,
+            layer: Layer::Call,
+            index: None,
+        }
     }
 }
 
@@ -153,7 +165,10 @@ pub impl fmt::Display for Fault as FaultDisplay {
         let place = self.place;
         let block = self.block;
         let layer = self.layer.number();
-        write!(f, "{text} (cause {cause}, place {place}, block {block}, layer {layer}")?;
+        write!(
+            f,
+            "{text} (cause {cause}, place {place}, block {block}, layer {layer}"
+        )?;
         if let Some(index) = self.index {
             write!(f, ", entry {index}")?;
         }

@@ -1,4 +1,4 @@
--- A document opens exactly where its header is lawful.
+-- A header is accepted exactly where the document is lawful, and else its first broken rule is told.
 use mathlib.Core.Path.{_≡_, refl, sym, _∙_, ap}
 use mathlib.Core.List.{List, [], _∷_}
 use mathlib.Core.Logic.{⊎-elim, inl, inr}
@@ -6,15 +6,15 @@ use Prim.Native.Nat.{ℕ, _+_, _≤_}
 use native.Mathlib.Omega.{arith}
 use lib.ListN.{length, getD, take}
 use Rattle.std.specs.Results.{Cases}
+use Rattle.std.specs.Vec.{refused}
 use Rattle.std.specs.declared.result.Result.{Result}
 use Rattle.std.specs.declared.result.Result.the-variants.{Ok, Err}
 use Rattle.std.proofs.shelf.Lists.{getD-take}
 use Rattle.std.proofs.shelf.Tests.{leb-true, le-leb, eqb-true, eq-eqb, or-cases, or-left, or-right}
 use Rattle.awd_fault.specs.declared.Fault.{Fault}
-use Rattle.awd_fault.specs.Faults.{answer}
-use Rattle.awd_header.specs.declared.Header.{Header}
-use Rattle.awd_header.specs.Header.{rules, opening, headerOf, bodyLength, Lawful}
-use Rattle.awd_header.proofs.Rules.{AllKept, all-kept, judged-kept, apart}
+use Rattle.awd_fault.specs.Faults.{answer, report}
+use Rattle.awd_header.specs.Header.{judged, rules, bodyLength, Lawful, AllKept, FirstBroken}
+use Rattle.awd_header.proofs.Rules.{all-kept, judged-on, first-broken, apart}
 
 front-three : (b : List ℕ) → 3 ≤ length b → take 3 b ≡ getD b 0 0 ∷ getD b 1 0 ∷ getD b 2 0 ∷ []
 front-three [] h = absurd (omega arith)
@@ -32,22 +32,41 @@ lawful-from b (long, (short, (a, (w, (d, (version, (revision, (plain, (body, non
       version = eqb-true (getD b 3 0) 2 version;
       revision = leb-true (getD b 4 0) 1 revision;
       plain = eqb-true (getD b 7 0) 0 plain;
-      body = ⊎-elim inl (λ e. inr (eqb-true (12 + bodyLength b) (length b) e)) (or-cases _ _ body)
+      body = ⊎-elim inl (λ e. inr (eqb-true (12 + bodyLength b) (length b) e)) (or-cases _ _ body);
     }
 
 kept-from : (b : List ℕ) → Lawful b → AllKept (rules b)
-kept-from b l =
-    (le-leb 12 (length b) (l .long),
-     (le-leb (length b) 16777216 (l .short),
-      (eq-eqb (getD b 0 0) 65 (sym (getD-take 3 b 0 0 (omega arith)) ∙ ap (λ t. getD t 0 0) (l .magic)),
-       (eq-eqb (getD b 1 0) 87 (sym (getD-take 3 b 1 0 (omega arith)) ∙ ap (λ t. getD t 1 0) (l .magic)),
-        (eq-eqb (getD b 2 0) 68 (sym (getD-take 3 b 2 0 (omega arith)) ∙ ap (λ t. getD t 2 0) (l .magic)),
-         (eq-eqb (getD b 3 0) 2 (l .version),
-          (le-leb (getD b 4 0) 1 (l .revision),
-           (eq-eqb (getD b 7 0) 0 (l .plain),
-            (⊎-elim (or-left _ _) (λ e. or-right _ _ (eq-eqb (12 + bodyLength b) (length b) e)) (l .body), tt)))))))))
+kept-from b l = (
+  le-leb 12 (length b) (l .long),
+  (
+    le-leb (length b) 16777216 (l .short),
+    (
+      eq-eqb (getD b 0 0) 65 (sym (getD-take 3 b 0 0 (omega arith)) ∙ ap (λ t. getD t 0 0) (l .magic)),
+      (
+        eq-eqb (getD b 1 0) 87 (sym (getD-take 3 b 1 0 (omega arith)) ∙ ap (λ t. getD t 1 0) (l .magic)),
+        (
+          eq-eqb (getD b 2 0) 68 (sym (getD-take 3 b 2 0 (omega arith)) ∙ ap (λ t. getD t 2 0) (l .magic)),
+          (
+            eq-eqb (getD b 3 0) 2 (l .version),
+            (
+              le-leb (getD b 4 0) 1 (l .revision),
+              (
+                eq-eqb (getD b 7 0) 0 (l .plain),
+                (⊎-elim (or-left _ _) (λ e. or-right _ _ (eq-eqb (12 + bodyLength b) (length b) e)) (l .body), tt),
+              ),
+            ),
+          ),
+        ),
+      ),
+    ),
+  ),
+)
 
--- the answer of an opening tells whether the document is lawful
-pub lawful-told : (r : Result Header Fault) (b : List ℕ) → answer r ≡ opening b → Cases r (λ _. Lawful b) (λ _. Lawful b → ⊥)
-lawful-told (Ok h) b e = lawful-from b (all-kept (rules b) (headerOf b) h e)
-lawful-told (Err f) b e = λ l. apart (sym (e ∙ judged-kept (rules b) (headerOf b) (kept-from b l)))
+-- a judgement that accepts tells that the document is lawful, one that refuses that it is not, and which rule is the first broken
+pub lawful-told : (r : Result (Unit {0}) Fault) (b : List ℕ) → answer r ≡ judged (rules b) → Cases r (λ _. Lawful b) (λ _. Lawful b → ⊥)
+lawful-told (Ok u) b e = lawful-from b (all-kept (rules b) e)
+lawful-told (Err f) b e = λ l. apart (sym (e ∙ judged-on (rules b) [] (kept-from b l)))
+
+pub first-told : (r : Result (Unit {0}) Fault) (b : List ℕ) → answer r ≡ judged (rules b) → refused r (λ f. FirstBroken (rules b) (report f))
+first-told (Ok u) b e = tt
+first-told (Err f) b e = first-broken (rules b) (report f) e

@@ -1,5 +1,5 @@
 -- The document header: what its bytes say, and its rules in the order in which they are judged. Assumes nothing.
-use mathlib.Core.Bool.{Bool, true, cond, _||_}
+use mathlib.Core.Bool.{Bool, true, false, cond, _||_}
 use mathlib.Core.List.{List, [], _∷_, _++_}
 use mathlib.Core.Logic.{_⊎_}
 use mathlib.Core.Path.{_≡_}
@@ -40,14 +40,14 @@ pub record Rule : Type 0 where
 abbrev pub rule : ℕ → ℕ → Bool → Rule
 rule cause place kept = record { kept = kept; cause = cause; place = place }
 
--- a value, or the fault of the first rule that is not kept
-abbrev pub judged : {A : Type 0} → List Rule → A → Result A Report
-judged [] x = Ok x
-judged (r ∷ rs) x = cond (r .kept) (judged rs x) (Err (inHeader (r .cause) (r .place)))
+-- the fault of a rule that is not kept
+abbrev pub ruleFault : Rule → Report
+ruleFault r = inHeader (r .cause) (r .place)
 
--- no value, or the fault of the first rule that is not kept
-abbrev pub checked : List Rule → Result (Unit {0}) Report
-checked rs = judged rs tt
+-- nothing, or the fault of the first rule that is not kept
+abbrev pub judged : List Rule → Result (Unit {0}) Report
+judged [] = Ok tt
+judged (r ∷ rs) = cond (r .kept) (judged rs) (Err (ruleFault r))
 
 -- the document is neither shorter than its header nor longer than 16,777,216 bytes
 abbrev pub sizeRules : List ℕ → List Rule
@@ -74,9 +74,14 @@ fieldRules b =
 abbrev pub rules : List ℕ → List Rule
 rules b = sizeRules b ++ (magicRules b ++ fieldRules b)
 
+-- a value where nothing is refused
+abbrev pub accepted : {A : Type 0} → Result (Unit {0}) Report → A → Result A Report
+accepted (Ok _) x = Ok x
+accepted (Err e) x = Err e
+
 -- what opening a list of bytes answers
 abbrev pub opening : List ℕ → Result Header Report
-opening b = judged (rules b) (headerOf b)
+opening b = accepted (judged (rules b)) (headerOf b)
 
 -- a document that may be opened
 pub record Lawful (b : List ℕ) : Type 0 where
@@ -87,3 +92,17 @@ pub record Lawful (b : List ℕ) : Type 0 where
   pub revision : getD b 4 0 ≤ 1
   pub plain : getD b 7 0 ≡ 0
   pub body : (streaming b ≡ true) ⊎ (12 + bodyLength b ≡ length b)
+
+abbrev pub AllKept : List Rule → Type 0
+AllKept [] = Unit {0}
+AllKept (r ∷ rs) = (r .kept ≡ true) × AllKept rs
+
+-- a fault is that of the first broken rule: those before it are kept, and it is not
+pub record FirstBroken (rs : List Rule) (f : Report) : Type 0 where
+  pub before : List Rule
+  pub broken : Rule
+  pub after : List Rule
+  pub all : rs ≡ before ++ (broken ∷ after)
+  pub kept : AllKept before
+  pub not-kept : broken .kept ≡ false
+  pub told : f ≡ ruleFault broken

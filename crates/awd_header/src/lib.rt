@@ -1,23 +1,28 @@
 // The document header: the 12 bytes in front of the blocks, what they say, and when they are refused.
 // This crate knows nothing of blocks or sessions.
-ghost use lib.ListN.{getD, length};
+ghost use lib.ListN.{getD};
 ghost use mathlib.Core.Path.{_≡_};
 ghost use Prim.Native.Nat.{_<_};
-ghost use Rattle.awd_fault.specs.Faults.{answer};
-ghost use Rattle.awd_header.specs.Header.{bit, flagsOf, bodyLength, headerOf, checked, sizeRules, magicRules, fieldRules, opening, Lawful};
+ghost use Rattle.awd_fault.specs.Faults.{answer, report};
+ghost use Rattle.awd_header.specs.Header.{bit, flagsOf, bodyLength, headerOf, judged, sizeRules, magicRules, fieldRules, rules, opening, Lawful, FirstBroken};
 ghost use Rattle.awd_header.specs.Widths.{widthSize, widthOf, sizes, widthsFrom, widthsOf};
 ghost use Rattle.std.specs.Results.{Cases};
+ghost use Rattle.std.specs.Vec.{refused};
 use awd_fault::Cause;
 use awd_fault::Fault;
 use awd_source::source::Source;
 
 pub const HEADER_SIZE: u64 = 12;
+
 pub const MAX_DOCUMENT: u64 = 16_777_216;
+
 const MAGIC: [u8; 3] = *b"AWD";
+
 const VERSION: u8 = 2;
+
 const LAST_REVISION: u8 = 1;
 
-// What an accepted header says.
+// What a header says.
 #[derive(Clone, Copy, PartialEq, Eq, Debug)]
 pub struct Header {
     pub version: u8,
@@ -63,6 +68,7 @@ fn bit_of(flags: u16, k: u32) -> bool
     (flags >> k) % 2 == 1
 }
 
+// The three widths by three bits of some flags, from the first on.
 fn widths_from(flags: u16, first: u32) -> Widths
     requires { ⌜ first < 2 ⌝ }
     ensures { λ r. ⌜ sizes r ≡ widthsFrom flags first ⌝ }
@@ -122,12 +128,16 @@ fn body_length<S: Source>(source: &S) -> u32
 pub fn header_of<S: Source>(source: &S) -> Header
     ensures { λ r. ⌜ r ≡ headerOf (S·Source .bytes (now (source .entry))) ⌝ }
 {
-    Header { version: byte_or_zero(source, 3), revision: byte_or_zero(source, 4), flags: flags_of(source) }
+    Header {
+        version: byte_or_zero(source, 3),
+        revision: byte_or_zero(source, 4),
+        flags: flags_of(source),
+    }
 }
 
 // The magic string, byte by byte; the fault stands at the first that differs.
 fn check_magic<S: Source>(source: &S) -> Result<(), Fault>
-    ensures { λ r. ⌜ answer r ≡ checked (magicRules (S·Source .bytes (now (source .entry)))) ⌝ }
+    ensures { λ r. ⌜ answer r ≡ judged (magicRules (S·Source .bytes (now (source .entry)))) ⌝ }
 {
     for (i, expected) in MAGIC.iter().enumerate() {
         if byte_or_zero(source, i as u64) != *expected {
@@ -137,8 +147,9 @@ fn check_magic<S: Source>(source: &S) -> Result<(), Fault>
     Ok(())
 }
 
+// The document's length.
 fn check_size<S: Source>(source: &S) -> Result<(), Fault>
-    ensures { λ r. ⌜ answer r ≡ checked (sizeRules (S·Source .bytes (now (source .entry)))) ⌝ }
+    ensures { λ r. ⌜ answer r ≡ judged (sizeRules (S·Source .bytes (now (source .entry)))) ⌝ }
 {
     let length = source.length();
     if length < HEADER_SIZE {
@@ -150,8 +161,9 @@ fn check_size<S: Source>(source: &S) -> Result<(), Fault>
     Ok(())
 }
 
+// Version, revision, compression and body length, in the order of their bytes.
 fn check_fields<S: Source>(source: &S) -> Result<(), Fault>
-    ensures { λ r. ⌜ answer r ≡ checked (fieldRules (S·Source .bytes (now (source .entry)))) ⌝ }
+    ensures { λ r. ⌜ answer r ≡ judged (fieldRules (S·Source .bytes (now (source .entry)))) ⌝ }
 {
     if byte_or_zero(source, 3) != VERSION {
         return Err(Fault::in_header(Cause::WrongVersion, 3));
@@ -168,13 +180,23 @@ fn check_fields<S: Source>(source: &S) -> Result<(), Fault>
     Ok(())
 }
 
+// All rules of the header, in order.
+fn check_header<S: Source>(source: &S) -> Result<(), Fault>
+    ensures value { λ r. ⌜ answer r ≡ judged (rules (S·Source .bytes (now (source .entry)))) ⌝ }
+    ensures lawful { λ r. ⌜ Cases r (λ _. Lawful (S·Source .bytes (now (source .entry)))) (λ _. Lawful (S·Source .bytes (now (source .entry))) → ⊥) ⌝ }
+    ensures first { λ r. ⌜ refused r (λ f. FirstBroken (rules (S·Source .bytes (now (source .entry)))) (report f)) ⌝ }
+{
+    check_size(source)?;
+    check_magic(source)?;
+    check_fields(source)
+}
+
 // Reads and judges the header of a document: what it says, or its first fault.
 pub fn read_header<S: Source>(source: &S) -> Result<Header, Fault>
     ensures value { λ r. ⌜ answer r ≡ opening (S·Source .bytes (now (source .entry))) ⌝ }
     ensures lawful { λ r. ⌜ Cases r (λ _. Lawful (S·Source .bytes (now (source .entry)))) (λ _. Lawful (S·Source .bytes (now (source .entry))) → ⊥) ⌝ }
+    ensures first { λ r. ⌜ refused r (λ f. FirstBroken (rules (S·Source .bytes (now (source .entry)))) (report f)) ⌝ }
 {
-    check_size(source)?;
-    check_magic(source)?;
-    check_fields(source)?;
+    check_header(source)?;
     Ok(header_of(source))
 }

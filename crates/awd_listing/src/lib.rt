@@ -24,7 +24,10 @@ fn opened_line(heap: Global, header: Header, length: u64) -> Result<String, Allo
     let version = header.version;
     let revision = header.revision;
     let flags = header.flags;
-    format!(heap, "AWD {version}.{revision} flags {flags} length {length}\n")
+    format!(
+        heap,
+        "AWD {version}.{revision} flags {flags} length {length}\n"
+    )
 }
 
 // The line for a refusal.

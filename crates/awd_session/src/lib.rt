@@ -1,10 +1,13 @@
 // A session over a source of bytes: it opens the document that the source holds, tells what its header says,
 // and is itself a source. It owns what it reads from and gives it back when it is closed.
 // This crate knows nothing of printing, nor of what kind its source is.
+ghost use mathlib.Core.Bool.{false};
 ghost use mathlib.Core.Path.{_≡_};
 ghost use Rattle.awd_fault.specs.Faults.{answer};
+ghost use Rattle.awd_header.specs.Header.{Lawful};
 ghost use Rattle.awd_session.specs.State.{fresh, openAnswer, afterOpen, headerAnswer};
 ghost use Rattle.awd_session.specs.View.{view};
+ghost use Rattle.std.specs.Results.{Cases};
 ghost use Rattle.std.specs.Vec.{refused};
 use awd_fault::Cause;
 use awd_fault::Fault;
@@ -25,13 +28,17 @@ impl<S: Source> Session<S> {
         ensures state { λ r. ⌜ view bytes r ≡ fresh (bytes source) ⌝ }
         ensures source { λ r. ⌜ r .source ≡ source ⌝ }
     {
-        Session { source, opened: false }
+        Session {
+            source,
+            opened: false,
+        }
     }
 
     // Judges the header and opens the document. A refusal leaves the session as it was.
     pub fn open(&mut self) -> Result<Header, Fault>
         ensures answer { λ r. ⌜ answer r ≡ openAnswer (view bytes (now (self .entry))) ⌝ }
         ensures state { λ _. ⌜ view bytes (now (self .exit)) ≡ afterOpen (view bytes (now (self .entry))) ⌝ }
+        ensures lawful { λ r. ⌜ Cases r (λ _. Lawful (bytes (now (self .entry) .source))) (λ _. now (self .entry) .opened ≡ false → Lawful (bytes (now (self .entry) .source)) → ⊥) ⌝ }
         ensures same { λ r. ⌜ refused r (λ _. now (self .exit) ≡ now (self .entry)) ⌝ }
         ensures source { λ _. ⌜ now (self .exit) .source ≡ now (self .entry) .source ⌝ }
     {
@@ -47,7 +54,11 @@ impl<S: Source> Session<S> {
     pub fn header(&self) -> Option<Header>
         ensures { λ r. ⌜ r ≡ headerAnswer (view bytes (now (self .entry))) ⌝ }
     {
-        if self.opened { Some(header_of(&self.source)) } else { None }
+        if self.opened {
+            Some(header_of(&self.source))
+        } else {
+            None
+        }
     }
 
     // Ends the session and gives its source back as it was.

@@ -6,12 +6,12 @@ ghost use mathlib.Core.Path.{_≡_};
 ghost use Prim.Native.Nat.{_≤_, _*_};
 ghost use Rattle.awd_fault.specs.Faults.{answer};
 ghost use Rattle.awd_source.specs.Pages.{wholeFront, paged, filling};
-ghost use Rattle.std.specs.Results.{Cases};
-use awd_fault::Cause;
-use awd_fault::Fault;
+ghost use Rattle.std.specs.Vec.{made, refused};
 use crate::run::Run;
 use crate::run::RunSource;
 use crate::source::Source;
+use awd_fault::Cause;
+use awd_fault::Fault;
 
 pub const PAGE_SIZE: u64 = 512;
 
@@ -31,17 +31,20 @@ impl<'a> Pages<'a> {
     pub fn new() -> Pages<'a>
         ensures { λ r. ⌜ paged (now (r .run .held)) (now (r .list)) (r .size) ≡ [] ⌝ }
     {
-        Pages { run: Run::new(&[]), list: &[], size: 0 }
+        Pages {
+            run: Run::new(&[]),
+            list: &[],
+            size: 0,
+        }
     }
 
     // From now on these pages. A refusal leaves the old ones.
     pub fn fill(&mut self, run: Run<'a>, list: &'a [u16], size: u64) -> Result<(), Fault>
         ensures answer { λ r. ⌜ answer r ≡ filling (now (run .entry .held)) (now (list .entry)) size ⌝ }
-        ensures after {
-            λ r. ⌜ Cases r (λ _. (now (self .exit) .run ≡ run .entry) × (now (self .exit) .list ≡ list .entry) × (now (self .exit) .size ≡ size))
-                (λ _. now (self .exit) ≡ now (self .entry)) ⌝
-        }
+        ensures filled { λ r. ⌜ made r (λ _. (now (self .exit) .run ≡ run .entry) × (now (self .exit) .list ≡ list .entry) × (now (self .exit) .size ≡ size)) ⌝ }
+        ensures same { λ r. ⌜ refused r (λ _. now (self .exit) ≡ now (self .entry)) ⌝ }
     {
+        // a list so long that the product leaves 64 bits has room for every size
         if size > PAGE_SIZE.saturating_mul(list.len() as u64) {
             return Err(Fault::of_call(Cause::LengthOverPages, 0, 0));
         }

@@ -1,10 +1,10 @@
 // A run: memory that the caller holds, as a source.
 ghost use denote.Ref.{now};
-ghost use lib.ListN.{length};
 ghost use mathlib.Core.Path.{_≡_};
 ghost use Rattle.awd_source.specs.Bytes.{VeryPart};
 use crate::source::Source;
 
+// It is only lent: while a run or a part of it is in use, the memory cannot be written.
 #[derive(Clone, Copy)]
 pub struct Run<'a> {
     held: &'a [u8],

@@ -22,7 +22,11 @@ impl<S> Window<S> {
     pub fn close(self) -> S
         ensures { λ r. ⌜ r ≡ self .below ⌝ }
     {
-        let Window { below, start: _, size: _ } = self;
+        let Window {
+            below,
+            start: _,
+            size: _,
+        } = self;
         below
     }
 }
@@ -31,12 +35,15 @@ pub impl<S: Source> Source for Window<S> as WindowSource {
     ghost bytes = { λ w. part (S·Source .bytes (w .below)) (w .start) (w .size) };
 
     fn length(&self) -> u64 {
-        self.below.length().saturating_sub(self.start).min(self.size)
+        let rest = self.below.length().saturating_sub(self.start);
+        rest.min(self.size)
     }
 
     fn byte(&self, at: u64) -> Option<u8> {
+        // the answer of length below also tells that no place in it leaves 64 bits
         let rest = self.below.length().saturating_sub(self.start);
-        if at >= rest.min(self.size) {
+        let length = rest.min(self.size);
+        if at >= length {
             return None;
         }
         self.below.byte(self.start + at)

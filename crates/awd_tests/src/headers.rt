@@ -15,48 +15,64 @@ use std::test::*;
 
 // A document of a length: these 12 bytes, then zeros; cut where it is shorter. It opens with version,
 // revision and flags, or is refused with cause and place.
-struct Case {
-    length: usize,
-    header: [u8; 12],
-    answer: Result<(u8, u8, u16), (u8, u64)>,
-}
+type Answer = Result<(u8, u8, u16), (u8, u64)>;
 
-const CASES: [Case; 22] = [
+const CASES: [(usize, [u8; 12], Answer); 22] = [
     // a sound header alone
-    Case { length: 12, header: [65, 87, 68, 2, 1, 0, 0, 0, 0, 0, 0, 0], answer: Ok((2, 1, 0)) },
+    (12, [65, 87, 68, 2, 1, 0, 0, 0, 0, 0, 0, 0], Ok((2, 1, 0))),
     // revision 0 is read by the same rules
-    Case { length: 12, header: [65, 87, 68, 2, 0, 0, 0, 0, 0, 0, 0, 0], answer: Ok((2, 0, 0)) },
+    (12, [65, 87, 68, 2, 0, 0, 0, 0, 0, 0, 0, 0], Ok((2, 0, 0))),
     // nothing at all, and one byte too few
-    Case { length: 0, header: [65, 87, 68, 2, 1, 0, 0, 0, 0, 0, 0, 0], answer: Err((2, 0)) },
-    Case { length: 11, header: [65, 87, 68, 2, 1, 0, 0, 0, 0, 0, 0, 0], answer: Err((2, 11)) },
+    (0, [65, 87, 68, 2, 1, 0, 0, 0, 0, 0, 0, 0], Err((2, 0))),
+    (11, [65, 87, 68, 2, 1, 0, 0, 0, 0, 0, 0, 0], Err((2, 11))),
     // the magic string, at each byte; the first that differs is told
-    Case { length: 12, header: [97, 87, 68, 2, 1, 0, 0, 0, 0, 0, 0, 0], answer: Err((4, 0)) },
-    Case { length: 12, header: [65, 119, 100, 2, 1, 0, 0, 0, 0, 0, 0, 0], answer: Err((4, 1)) },
-    Case { length: 12, header: [65, 87, 69, 2, 1, 0, 0, 0, 0, 0, 0, 0], answer: Err((4, 2)) },
+    (12, [97, 87, 68, 2, 1, 0, 0, 0, 0, 0, 0, 0], Err((4, 0))),
+    (12, [65, 119, 100, 2, 1, 0, 0, 0, 0, 0, 0, 0], Err((4, 1))),
+    (12, [65, 87, 69, 2, 1, 0, 0, 0, 0, 0, 0, 0], Err((4, 2))),
     // version, then revision
-    Case { length: 12, header: [65, 87, 68, 3, 1, 0, 0, 0, 0, 0, 0, 0], answer: Err((5, 3)) },
-    Case { length: 12, header: [65, 87, 68, 3, 2, 0, 0, 0, 0, 0, 0, 0], answer: Err((5, 3)) },
-    Case { length: 12, header: [65, 87, 68, 2, 2, 0, 0, 0, 0, 0, 0, 0], answer: Err((5, 4)) },
+    (12, [65, 87, 68, 3, 1, 0, 0, 0, 0, 0, 0, 0], Err((5, 3))),
+    (12, [65, 87, 68, 3, 2, 0, 0, 0, 0, 0, 0, 0], Err((5, 3))),
+    (12, [65, 87, 68, 2, 2, 0, 0, 0, 0, 0, 0, 0], Err((5, 4))),
     // compression
-    Case { length: 12, header: [65, 87, 68, 2, 1, 0, 0, 1, 0, 0, 0, 0], answer: Err((6, 7)) },
-    Case { length: 12, header: [65, 87, 68, 2, 1, 0, 0, 255, 9, 0, 0, 0], answer: Err((6, 7)) },
+    (12, [65, 87, 68, 2, 1, 0, 0, 1, 0, 0, 0, 0], Err((6, 7))),
+    (12, [65, 87, 68, 2, 1, 0, 0, 255, 9, 0, 0, 0], Err((6, 7))),
     // the body length of a document of 176 bytes is 164; it is not looked at when streaming
-    Case { length: 176, header: [65, 87, 68, 2, 1, 0, 0, 0, 164, 0, 0, 0], answer: Ok((2, 1, 0)) },
-    Case { length: 176, header: [65, 87, 68, 2, 1, 0, 0, 0, 163, 0, 0, 0], answer: Err((7, 8)) },
-    Case { length: 176, header: [65, 87, 68, 2, 1, 0, 0, 0, 176, 0, 0, 0], answer: Err((7, 8)) },
-    Case { length: 176, header: [65, 87, 68, 2, 1, 1, 0, 0, 163, 0, 0, 0], answer: Ok((2, 1, 1)) },
+    (
+        176,
+        [65, 87, 68, 2, 1, 0, 0, 0, 164, 0, 0, 0],
+        Ok((2, 1, 0)),
+    ),
+    (176, [65, 87, 68, 2, 1, 0, 0, 0, 163, 0, 0, 0], Err((7, 8))),
+    (176, [65, 87, 68, 2, 1, 0, 0, 0, 176, 0, 0, 0], Err((7, 8))),
+    (
+        176,
+        [65, 87, 68, 2, 1, 1, 0, 0, 163, 0, 0, 0],
+        Ok((2, 1, 1)),
+    ),
     // each byte of the body length counts: 500 is 244 + 1 × 256
-    Case { length: 512, header: [65, 87, 68, 2, 1, 0, 0, 0, 244, 1, 0, 0], answer: Ok((2, 1, 0)) },
-    Case { length: 512, header: [65, 87, 68, 2, 1, 0, 0, 0, 1, 244, 0, 0], answer: Err((7, 8)) },
-    Case { length: 12, header: [65, 87, 68, 2, 1, 0, 0, 0, 0, 0, 1, 0], answer: Err((7, 8)) },
-    Case { length: 12, header: [65, 87, 68, 2, 1, 0, 0, 0, 0, 0, 0, 1], answer: Err((7, 8)) },
+    (
+        512,
+        [65, 87, 68, 2, 1, 0, 0, 0, 244, 1, 0, 0],
+        Ok((2, 1, 0)),
+    ),
+    (512, [65, 87, 68, 2, 1, 0, 0, 0, 1, 244, 0, 0], Err((7, 8))),
+    (12, [65, 87, 68, 2, 1, 0, 0, 0, 0, 0, 1, 0], Err((7, 8))),
+    (12, [65, 87, 68, 2, 1, 0, 0, 0, 0, 0, 0, 1], Err((7, 8))),
     // flags have 16 bits, the lower byte first, and those above bit 4 are free
-    Case { length: 12, header: [65, 87, 68, 2, 1, 0xe0, 0xff, 0, 0, 0, 0, 0], answer: Ok((2, 1, 0xffe0)) },
-    Case { length: 12, header: [65, 87, 68, 2, 1, 0xff, 0x7f, 0, 9, 9, 9, 9], answer: Ok((2, 1, 0x7fff)) },
+    (
+        12,
+        [65, 87, 68, 2, 1, 0xe0, 0xff, 0, 0, 0, 0, 0],
+        Ok((2, 1, 0xffe0)),
+    ),
+    (
+        12,
+        [65, 87, 68, 2, 1, 0xff, 0x7f, 0, 9, 9, 9, 9],
+        Ok((2, 1, 0x7fff)),
+    ),
 ];
 
 // The answer of an opening: what it tells, or cause and place, if the rest of the fault is as it should be.
-fn told(answer: Result<Header, Fault>) -> Result<(u8, u8, u16), (u8, u64)> {
+fn told(answer: Result<Header, Fault>) -> Answer {
     match answer {
         Ok(h) => Ok((h.version, h.revision, h.flags)),
         Err(f) => {
@@ -71,11 +87,11 @@ fn told(answer: Result<Header, Fault>) -> Result<(u8, u8, u16), (u8, u64)> {
 
 #[test]
 fn cases(rt: LibcRuntime) -> Result<(), Fail> {
-    for (i, case) in CASES.iter().enumerate() {
-        let mut document = case.header.to_vec(rt.alloc())?;
-        document.resize(case.length, 0)?;
+    for (i, (length, header, expected)) in CASES.iter().enumerate() {
+        let mut document = header.to_vec(rt.alloc())?;
+        document.resize(*length, 0)?;
         let mut session = Session::new(Run::new(document.as_slice()));
-        check_eq(told(session.open()), case.answer).note(i)?;
+        check_eq(told(session.open()), *expected).note(i)?;
     }
     Ok(())
 }
@@ -91,7 +107,15 @@ fn opened_once() -> Result<(), Fail> {
     let Err(fault) = again else {
         return Err(Fail::new("opened twice"));
     };
-    check_eq((fault.cause.number(), fault.place, fault.block, fault.layer.number()), (1, 0, 0, 4))?;
+    check_eq(
+        (
+            fault.cause.number(),
+            fault.place,
+            fault.block,
+            fault.layer.number(),
+        ),
+        (1, 0, 0, 4),
+    )?;
     check(fault.index.is_none())?;
     let Some(header) = session.header() else {
         return Err(Fail::new("no header"));
@@ -152,9 +176,17 @@ fn longest(rt: LibcRuntime) -> Result<(), Fail> {
     memory[0..12].copy_from_slice(&[65, 87, 68, 2, 1, 1, 0, 0, 0, 0, 0, 0]);
     let list = vec![in rt.alloc(); 0u16; 32769]?;
     let mut pages = Pages::new();
-    check(pages.fill(Run::new(&memory), list.as_slice(), 16_777_216).is_ok())?;
+    check(
+        pages
+            .fill(Run::new(&memory), list.as_slice(), 16_777_216)
+            .is_ok(),
+    )?;
     check_eq(told(Session::new(&pages).open()), Ok((2, 1, 1)))?;
-    check(pages.fill(Run::new(&memory), list.as_slice(), 16_777_217).is_ok())?;
+    check(
+        pages
+            .fill(Run::new(&memory), list.as_slice(), 16_777_217)
+            .is_ok(),
+    )?;
     check_eq(told(Session::new(&pages).open()), Err((3, 16_777_216)))
 }
 
@@ -173,12 +205,26 @@ const WIDTHS: [(u16, u8, u8, u8, u8); 8] = [
 #[test]
 fn widths() -> Result<(), Fail> {
     for (flags, block, matrix, geometry, property) in WIDTHS {
-        let header = Header { version: 2, revision: 1, flags };
+        let header = Header {
+            version: 2,
+            revision: 1,
+            flags,
+        };
         let widths = header.widths(block);
         check_eq(widths.matrix.bytes(), matrix)?;
         check_eq(widths.geometry.bytes(), geometry)?;
         check_eq(widths.property.bytes(), property)?;
     }
-    check(Header { version: 2, revision: 1, flags: 1 }.streaming())?;
-    check(!Header { version: 2, revision: 1, flags: 0xfffe }.streaming())
+    check(Header {
+        version: 2,
+        revision: 1,
+        flags: 1,
+    }.streaming())?;
+    check(
+        !Header {
+            version: 2,
+            revision: 1,
+            flags: 0xfffe,
+        }.streaming(),
+    )
 }

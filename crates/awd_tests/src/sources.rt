@@ -80,7 +80,10 @@ fn windows() -> Result<(), Fail> {
     // a window on a window: places 3 to 6, of which the second and third
     let upper = Window::new(Window::new(Run::new(&memory), 3, 4), 1, 2);
     check_eq(upper.length(), 2)?;
-    check_eq((upper.byte(0), upper.byte(1), upper.byte(2)), (Some(4), Some(5), None))
+    check_eq(
+        (upper.byte(0), upper.byte(1), upper.byte(2)),
+        (Some(4), Some(5), None),
+    )
 }
 
 // A run of four pages and a half; each byte is ten times its page's number, and one more at the page's end.
@@ -146,10 +149,16 @@ fn fills() -> Result<(), Fail> {
     for (list, size, expected) in FILLS {
         let mut pages = Pages::new();
         check_eq(refusal(pages.fill(Run::new(&memory), &one, 3)), None)?;
-        check_eq(refusal(pages.fill(Run::new(&memory), &list, size)), expected).note(size)?;
+        check_eq(
+            refusal(pages.fill(Run::new(&memory), &list, size)),
+            expected,
+        ).note(size)?;
         // a refused fill leaves the old pages
         if expected.is_some() {
-            check_eq((pages.length(), pages.byte(2), pages.byte(3)), (3, Some(20), None))?;
+            check_eq(
+                (pages.length(), pages.byte(2), pages.byte(3)),
+                (3, Some(20), None),
+            )?;
         } else {
             check_eq(pages.length(), size)?;
         }

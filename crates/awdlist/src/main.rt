@@ -8,7 +8,9 @@ use std::io::Read;
 fn main(rt: LibcRuntime) -> Result<(), AnyError> {
     let mut input = Vec::new(rt.alloc());
     // one byte more than may be listed, so that a longer input is seen to be longer
-    rt.stdin().take(MAX_INPUT as u64 + 1).read_to_end(&mut input)?;
+    rt.stdin()
+        .take(MAX_INPUT as u64 + 1)
+        .read_to_end(&mut input)?;
     let text = listing(rt.alloc(), input.as_slice())?;
     rt.print(text.as_str())?;
     Ok(())

@@ -23,5 +23,5 @@ returns g c =
     let n : c .loop-at .at ≡ length bs = omega arith in
     record {
       answer = sym (cond-false _ _ _ (le-ltb (length (c .args .buffer .now)) (length bs) h));
-      after = c .loop-at .inv ∙ copied-all bs (c .args .buffer .now) (c .loop-at .at) n h
+      after = c .loop-at .inv ∙ copied-all bs (c .args .buffer .now) (c .loop-at .at) n h;
     }

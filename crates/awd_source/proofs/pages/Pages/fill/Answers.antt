@@ -15,14 +15,15 @@ returns-then-page-length c =
     let ends = front-ends run list i (c .loop-i .inv) (omega arith) (omega arith) in
     record {
       answer = ap Err (c .of-call-then-page-length .ensures) ∙ outside run list (c .args .size) enough i (omega arith) ends;
-      after = refl
+      filled = tt;
+      same = refl;
     }
 
 pub loop-i-again : need.loop-i-again
 loop-i-again c = front-more (c .args .run .held .now) (c .args .list .now) (c .loop-i .i) (c .loop-i .inv) (omega arith) (omega arith)
 
 pub ghost-self : need.ghost-self
-ghost-self c =
-    let enough : c .args .size ≤ 512 * length (c .args .list .now) = omega arith in
-    let whole = front-all (c .args .run .held .now) (c .args .list .now) (c .loop-i .i) (c .loop-i .inv) (omega arith) (omega arith) in
-    (whole, (enough, tt))
+ghost-self c = (
+  front-all (c .args .run .held .now) (c .args .list .now) (c .loop-i .i) (c .loop-i .inv) (omega arith) (omega arith),
+  (omega arith, tt),
+)

@@ -1,4 +1,3 @@
-use mathlib.Core.Path.{sym, _∙_}
 use native.Mathlib.Omega.{arith}
 use Rattle.awd_source.proofs.Joins.{length-paged, paged-byte}
 use Rattle.awd_source.proofs.Parts.{byte-beyond}
@@ -11,4 +10,7 @@ returns-then-at-self c =
     byte-beyond _ _ (omega arith)
 
 pub returns : need.returns
-returns c = let p = c .args .self .now in c .byte .ensures ∙ paged-byte _ _ _ (p .inside) (p .enough) _ (omega arith)
+returns c =
+    let p = c .args .self .now in
+    let same = paged-byte (p .run .held .now) (p .list .now) (p .size) (p .inside) (p .enough) (c .args .at) (omega arith) in
+    cc
