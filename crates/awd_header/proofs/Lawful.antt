@@ -5,15 +5,13 @@ use mathlib.Core.Logic.{⊎-elim, inl, inr}
 use Prim.Native.Nat.{ℕ, _+_, _≤_}
 use native.Mathlib.Omega.{arith}
 use lib.ListN.{length, getD, take}
-use Rattle.std.specs.Results.{Cases}
-use Rattle.std.specs.Vec.{refused}
 use Rattle.std.specs.declared.result.Result.{Result}
 use Rattle.std.specs.declared.result.Result.the-variants.{Ok, Err}
 use Rattle.std.proofs.shelf.Lists.{getD-take}
 use Rattle.std.proofs.shelf.Tests.{leb-true, le-leb, eqb-true, eq-eqb, or-cases, or-left, or-right}
 use Rattle.awd_fault.specs.declared.Fault.{Fault}
 use Rattle.awd_fault.specs.Faults.{answer, report}
-use Rattle.awd_header.specs.Header.{judged, rules, bodyLength, Lawful, AllKept, FirstBroken}
+use Rattle.awd_header.specs.Header.{judged, rules, bodyLength, Lawful, AllKept, Right}
 use Rattle.awd_header.proofs.Rules.{all-kept, judged-on, first-broken, apart}
 
 front-three : (b : List ℕ) → 3 ≤ length b → take 3 b ≡ getD b 0 0 ∷ getD b 1 0 ∷ getD b 2 0 ∷ []
@@ -62,11 +60,11 @@ kept-from b l = (
   ),
 )
 
--- a judgement that accepts tells that the document is lawful, one that refuses that it is not, and which rule is the first broken
-pub lawful-told : (r : Result (Unit {0}) Fault) (b : List ℕ) → answer r ≡ judged (rules b) → Cases r (λ _. Lawful b) (λ _. Lawful b → ⊥)
-lawful-told (Ok u) b e = lawful-from b (all-kept (rules b) e)
-lawful-told (Err f) b e = λ l. apart (sym (e ∙ judged-on (rules b) [] (kept-from b l)))
-
-pub first-told : (r : Result (Unit {0}) Fault) (b : List ℕ) → answer r ≡ judged (rules b) → refused r (λ f. FirstBroken (rules b) (report f))
-first-told (Ok u) b e = tt
-first-told (Err f) b e = first-broken (rules b) (report f) e
+-- a judgement is right
+pub judged-right : (r : Result (Unit {0}) Fault) (b : List ℕ) → answer r ≡ judged (rules b) → Right b r
+judged-right (Ok u) b e = record { lawful = lawful-from b (all-kept (rules b) e); first = tt }
+judged-right (Err f) b e =
+    record {
+      lawful = λ l. apart (sym (e ∙ judged-on (rules b) [] (kept-from b l)));
+      first = first-broken (rules b) (report f) e;
+    }

@@ -9,7 +9,10 @@ use lib.Dec.{eqb, leb}
 use lib.ListN.{length, getD, take}
 use Rattle.std.specs.declared.result.Result.{Result}
 use Rattle.std.specs.declared.result.Result.the-variants.{Ok, Err}
-use Rattle.awd_fault.specs.Faults.{Report, inHeader}
+use Rattle.std.specs.Results.{Cases}
+use Rattle.std.specs.Vec.{refused}
+use Rattle.awd_fault.specs.declared.Fault.{Fault}
+use Rattle.awd_fault.specs.Faults.{Report, report, inHeader}
 use Rattle.awd_source.specs.Bytes.{part, le}
 use Rattle.awd_header.specs.declared.Header.{Header}
 
@@ -106,3 +109,8 @@ pub record FirstBroken (rs : List Rule) (f : Report) : Type 0 where
   pub kept : AllKept before
   pub not-kept : broken .kept ≡ false
   pub told : f ≡ ruleFault broken
+
+-- an answer is right of a document: an acceptance says that it is lawful, a refusal that it is not, and which rule is the first broken
+pub record Right {A : Type 0} (b : List ℕ) (r : Result A Fault) : Type 0 where
+  pub lawful : Cases r (λ _. Lawful b) (λ _. Lawful b → ⊥)
+  pub first : refused r (λ f. FirstBroken (rules b) (report f))

@@ -3,11 +3,9 @@
 ghost use lib.ListN.{getD};
 ghost use mathlib.Core.Path.{_≡_};
 ghost use Prim.Native.Nat.{_<_};
-ghost use Rattle.awd_fault.specs.Faults.{answer, report};
-ghost use Rattle.awd_header.specs.Header.{bit, flagsOf, bodyLength, headerOf, judged, sizeRules, magicRules, fieldRules, rules, opening, Lawful, FirstBroken};
+ghost use Rattle.awd_fault.specs.Faults.{answer};
+ghost use Rattle.awd_header.specs.Header.{bit, flagsOf, bodyLength, headerOf, judged, sizeRules, magicRules, fieldRules, rules, opening, Right};
 ghost use Rattle.awd_header.specs.Widths.{widthSize, widthOf, sizes, widthsFrom, widthsOf};
-ghost use Rattle.std.specs.Results.{Cases};
-ghost use Rattle.std.specs.Vec.{refused};
 use awd_fault::Cause;
 use awd_fault::Fault;
 use awd_source::source::Source;
@@ -183,8 +181,7 @@ fn check_fields<S: Source>(source: &S) -> Result<(), Fault>
 // All rules of the header, in order.
 fn check_header<S: Source>(source: &S) -> Result<(), Fault>
     ensures value { λ r. ⌜ answer r ≡ judged (rules (S·Source .bytes (now (source .entry)))) ⌝ }
-    ensures lawful { λ r. ⌜ Cases r (λ _. Lawful (S·Source .bytes (now (source .entry)))) (λ _. Lawful (S·Source .bytes (now (source .entry))) → ⊥) ⌝ }
-    ensures first { λ r. ⌜ refused r (λ f. FirstBroken (rules (S·Source .bytes (now (source .entry)))) (report f)) ⌝ }
+    ensures right { λ r. ⌜ Right (S·Source .bytes (now (source .entry))) r ⌝ }
 {
     check_size(source)?;
     check_magic(source)?;
@@ -194,8 +191,7 @@ fn check_header<S: Source>(source: &S) -> Result<(), Fault>
 // Reads and judges the header of a document: what it says, or its first fault.
 pub fn read_header<S: Source>(source: &S) -> Result<Header, Fault>
     ensures value { λ r. ⌜ answer r ≡ opening (S·Source .bytes (now (source .entry))) ⌝ }
-    ensures lawful { λ r. ⌜ Cases r (λ _. Lawful (S·Source .bytes (now (source .entry)))) (λ _. Lawful (S·Source .bytes (now (source .entry))) → ⊥) ⌝ }
-    ensures first { λ r. ⌜ refused r (λ f. FirstBroken (rules (S·Source .bytes (now (source .entry)))) (report f)) ⌝ }
+    ensures right { λ r. ⌜ Right (S·Source .bytes (now (source .entry))) r ⌝ }
 {
     check_header(source)?;
     Ok(header_of(source))

@@ -4,10 +4,9 @@
 ghost use mathlib.Core.Bool.{false};
 ghost use mathlib.Core.Path.{_≡_};
 ghost use Rattle.awd_fault.specs.Faults.{answer};
-ghost use Rattle.awd_header.specs.Header.{Lawful};
+ghost use Rattle.awd_header.specs.Header.{Right};
 ghost use Rattle.awd_session.specs.State.{fresh, openAnswer, afterOpen, headerAnswer};
 ghost use Rattle.awd_session.specs.View.{view};
-ghost use Rattle.std.specs.Results.{Cases};
 ghost use Rattle.std.specs.Vec.{refused};
 use awd_fault::Cause;
 use awd_fault::Fault;
@@ -38,7 +37,7 @@ impl<S: Source> Session<S> {
     pub fn open(&mut self) -> Result<Header, Fault>
         ensures answer { λ r. ⌜ answer r ≡ openAnswer (view bytes (now (self .entry))) ⌝ }
         ensures state { λ _. ⌜ view bytes (now (self .exit)) ≡ afterOpen (view bytes (now (self .entry))) ⌝ }
-        ensures lawful { λ r. ⌜ Cases r (λ _. Lawful (bytes (now (self .entry) .source))) (λ _. now (self .entry) .opened ≡ false → Lawful (bytes (now (self .entry) .source)) → ⊥) ⌝ }
+        ensures right { λ r. ⌜ (now (self .entry) .opened ≡ false → Right (bytes (now (self .entry) .source)) r) ⌝ }
         ensures same { λ r. ⌜ refused r (λ _. now (self .exit) ≡ now (self .entry)) ⌝ }
         ensures source { λ _. ⌜ now (self .exit) .source ≡ now (self .entry) .source ⌝ }
     {

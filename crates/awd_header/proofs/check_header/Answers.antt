@@ -3,7 +3,7 @@ use mathlib.Core.Path.{_≡_, sym, _∙_}
 use Rattle.std.proofs.shelf.Results.{err-from-errBy}
 use Rattle.awd_fault.specs.Faults.{answer}
 use Rattle.awd_header.specs.Header.{judged, rules, sizeRules, magicRules, fieldRules}
-use Rattle.awd_header.proofs.Lawful.{lawful-told, first-told}
+use Rattle.awd_header.proofs.Lawful.{judged-right}
 use Rattle.awd_header.proofs.Rules.{all-kept, judged-on, judged-stop}
 use Rattle.awd_header.proofs.check_header.Needs as need
 
@@ -14,7 +14,7 @@ returns-in-Break-check-size g c =
     let p = err-from-errBy (x .result) (x .ensures .1) in
     let v : answer (x .result) ≡ judged (rules b) =
     rw (p .1, p .2) (judged-stop (sizeRules b) (magicRules b ++ fieldRules b) _ (c .in-Break-check-size .ensures tt)) in
-    record { value = v; lawful = lawful-told (x .result) b v; first = first-told (x .result) b v }
+    record { value = v; right = judged-right (x .result) b v }
 
 pub returns-in-Break-check-magic : need.returns-in-Break-check-magic
 returns-in-Break-check-magic g c =
@@ -24,7 +24,7 @@ returns-in-Break-check-magic g c =
     let sizes = all-kept (sizeRules b) (c .in-Continue-check-size .ensures tt) in
     let v : answer (x .result) ≡ judged (rules b) =
     rw (p .1, p .2) (judged-stop (magicRules b) (fieldRules b) _ (c .in-Break-check-magic .ensures tt) ∙ sym (judged-on (sizeRules b) (magicRules b ++ fieldRules b) sizes)) in
-    record { value = v; lawful = lawful-told (x .result) b v; first = first-told (x .result) b v }
+    record { value = v; right = judged-right (x .result) b v }
 
 pub returns : need.returns
 returns g c =
@@ -35,4 +35,4 @@ returns g c =
     let v : answer r ≡ judged (rules b) =
     c .check-fields .ensures
     ∙ sym (judged-on (sizeRules b) (magicRules b ++ fieldRules b) sizes ∙ judged-on (magicRules b) (fieldRules b) magic) in
-    record { value = v; lawful = lawful-told r b v; first = first-told r b v }
+    record { value = v; right = judged-right r b v }
