@@ -1,13 +1,15 @@
 // What a refusal says: its cause, the place of the first fault, the block, the layer and the entry.
 // This crate knows nothing of bytes, sources or sessions.
 ghost use mathlib.Core.Path.{_≡_};
+ghost use Rattle.std.specs.Orderings.{Decides};
 ghost use Rattle.std.specs.declared.option.Option.the-variants.{Some};
 ghost use Rattle.awd_fault.specs.Faults.{causeNumber, layerNumber, report, inHeader, ofCall};
 ghost use Rattle.awd_fault.specs.Texts.{causeText};
+use std::error::Error;
 use std::fmt;
 
 // Why something is refused. The numbers are part of the format; a program may print them.
-#[derive(Clone, Copy, PartialEq, Eq, Debug)]
+#[derive(Clone, Copy, Eq, Debug)]
 pub enum Cause {
     AlreadyOpen = 1,
     HeaderTooShort = 2,
@@ -85,6 +87,15 @@ impl Cause {
         ensures { λ r. ⌜ now r ≡ causeText self ⌝ }
     {
         CAUSE_TEXTS[self.number() as usize - 1]
+    }
+}
+
+// Causes are equal where their numbers are.
+pub impl PartialEq<Cause> for Cause as CausePartialEq {
+    ghost equals = { λ x y r. Decides r (x ≡ y) };
+
+    fn eq(&self, other: &Cause) -> bool {
+        self.number() == other.number()
     }
 }
 
@@ -175,3 +186,5 @@ pub impl fmt::Display for Fault as FaultDisplay {
         write!(f, ")")
     }
 }
+
+pub impl Error for Fault as FaultError {}

@@ -2,7 +2,9 @@
 use awd_fault::Cause;
 use awd_fault::Fault;
 use awd_fault::FaultDisplay;
+use awd_fault::FaultError;
 use awd_fault::Layer;
+use std::error::AnyError;
 use std::test::*;
 
 #[test]
@@ -30,5 +32,23 @@ fn faults(rt: LibcRuntime) -> Result<(), Fail> {
     check_eq(
         text.as_str(),
         "no block with this number is taken (cause 18, place 0, block 600, layer 4)",
+    )
+}
+
+fn refuses() -> Result<(), AnyError> {
+    Err(Fault::in_header(Cause::CompressedDocument, 7))?;
+    Ok(())
+}
+
+// A program that passes a fault on by `?` prints the same text.
+#[test]
+fn passed_on(rt: LibcRuntime) -> Result<(), Fail> {
+    let Err(error) = refuses() else {
+        return Err(Fail::new("not refused"));
+    };
+    let text = format!(rt.alloc(), "{error}")?;
+    check_eq(
+        text.as_str(),
+        "the document is compressed (cause 6, place 7, block 0, layer 0)",
     )
 }
