@@ -10,9 +10,9 @@ use awd_fault::Fault;
 use awd_header::Header;
 use awd_session::Session;
 use awd_session::SessionSource;
-use awd_source::run::Run;
-use awd_source::source::RefSource;
-use awd_source::source::Source;
+use awd_source::RefSource;
+use awd_source::Run;
+use awd_source::Source;
 
 // The byte at place 1, read by way of a part of a run; then 7 is written there. While the part is in use the
 // memory cannot be written: one reads, or copies, first.

@@ -8,7 +8,7 @@ ghost use Rattle.awd_header.specs.Header.{bit, flagsOf, bodyLength, headerOf, 
 ghost use Rattle.awd_header.specs.Widths.{widthSize, widthOf, sizes, widthsFrom, widthsOf};
 use awd_fault::Cause;
 use awd_fault::Fault;
-use awd_source::source::Source;
+use awd_source::Source;
 
 pub const HEADER_SIZE: u64 = 12;
 

@@ -9,9 +9,9 @@ use awd_fault::Fault;
 use awd_header::Header;
 use awd_session::Session;
 use awd_session::SessionSource;
-use awd_source::run::Run;
-use awd_source::run::RunSource;
-use awd_source::source::Source;
+use awd_source::Run;
+use awd_source::RunSource;
+use awd_source::Source;
 use std::alloc::AllocError;
 use std::alloc::Global;
 

@@ -13,7 +13,7 @@ use awd_fault::Fault;
 use awd_header::Header;
 use awd_header::header_of;
 use awd_header::read_header;
-use awd_source::source::Source;
+use awd_source::Source;
 
 #[derive(Drop)]
 pub struct Session<S: Source> {

@@ -3,14 +3,14 @@ use awd_fault::Fault;
 use awd_header::Header;
 use awd_session::Session;
 use awd_session::SessionSource;
-use awd_source::pages::Pages;
-use awd_source::pages::PagesSource;
-use awd_source::run::Run;
-use awd_source::run::RunSource;
-use awd_source::source::RefSource;
-use awd_source::source::Source;
-use awd_source::window::Window;
-use awd_source::window::WindowSource;
+use awd_source::Pages;
+use awd_source::PagesSource;
+use awd_source::RefSource;
+use awd_source::Run;
+use awd_source::RunSource;
+use awd_source::Source;
+use awd_source::Window;
+use awd_source::WindowSource;
 use std::test::*;
 
 // A document of a length: these 12 bytes, then zeros; cut where it is shorter. It opens with version,

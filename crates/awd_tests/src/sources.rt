@@ -1,14 +1,14 @@
 // Runs and their parts, pages, windows and copies.
 use awd_fault::Fault;
-use awd_source::copies::copy;
-use awd_source::pages::Pages;
-use awd_source::pages::PagesSource;
-use awd_source::run::Run;
-use awd_source::run::RunSource;
-use awd_source::source::RefSource;
-use awd_source::source::Source;
-use awd_source::window::Window;
-use awd_source::window::WindowSource;
+use awd_source::Pages;
+use awd_source::PagesSource;
+use awd_source::RefSource;
+use awd_source::Run;
+use awd_source::RunSource;
+use awd_source::Source;
+use awd_source::Window;
+use awd_source::WindowSource;
+use awd_source::copy;
 use std::test::*;
 
 // Cause and place of a refusal by a call, if the rest of the fault is as it should be.
