@@ -1,7 +1,7 @@
-use mathlib.Core.Path.{_≡_, sym, _∙_, ap}
+use mathlib.Core.Path.{_≡_, sym, _∙_}
 use Prim.Native.Nat.{_<_, _≤_}
 use native.Mathlib.Omega.{arith}
-use lib.ListN.{length, getD, set}
+use lib.ListN.{length, getD}
 use Rattle.std.proofs.shelf.Tests.{le-ltb, cond-false}
 use Rattle.std.proofs.shelf.Ways.{tells}
 use Rattle.awd_source.proofs.Pasted.{copied-more, copied-all}
@@ -14,7 +14,9 @@ loop-at-again g c =
     let h : i < length bs = omega arith in
     let k : i < length (c .args .buffer .now) = omega arith in
     let e : c .in-Some .b ≡ getD bs i 0 = grind (arith, tells) in
-    ap (λ x. set x i (c .in-Some .b)) (c .loop-at .inv) ∙ rw e (copied-more bs (c .args .buffer .now) i h k)
+    let more = copied-more bs (c .args .buffer .now) i h k in
+    let inv = c .loop-at .inv in
+    cc
 
 pub returns : need.returns
 returns g c =

@@ -1,8 +1,6 @@
-use mathlib.Core.Path.{refl, _∙_, ap}
 use Prim.Native.Nat.{_≤_, _*_}
 use native.Mathlib.Omega.{arith}
 use lib.ListN.{length}
-use Rattle.std.specs.declared.result.Result.the-variants.{Err}
 use Rattle.awd_source.proofs.Joins.{front-more, front-ends, front-all, outside}
 use Rattle.awd_source.proofs.pages.Pages.fill.Needs as need
 
@@ -13,11 +11,8 @@ returns-then-page-length c =
     let i = c .loop-i .i in
     let enough : c .args .size ≤ 512 * length list = omega arith in
     let ends = front-ends run list i (c .loop-i .inv) (omega arith) (omega arith) in
-    record {
-      answer = ap Err (c .of-call-then-page-length .ensures) ∙ outside run list (c .args .size) enough i (omega arith) ends;
-      filled = tt;
-      same = refl;
-    }
+    let told = outside run list (c .args .size) enough i (omega arith) ends in
+    record { answer = cc; filled = tt; same = cc }
 
 pub loop-i-again : need.loop-i-again
 loop-i-again c = front-more (c .args .run .held .now) (c .args .list .now) (c .loop-i .i) (c .loop-i .inv) (omega arith) (omega arith)
