@@ -1,9 +1,8 @@
 // Callers of the library as they are accepted. Small edits of them must be refused: those in refused/ by the
 // compiler's borrow checker and privacy, those in must-fail/ by the prover.
-ghost use lib.ListN.{getD, length, set};
+ghost use lib.ListN.{getD, set};
 ghost use mathlib.Core.Bool.{false};
 ghost use mathlib.Core.Path.{_≡_};
-ghost use Prim.Native.Nat.{_≤_};
 ghost use Rattle.awd_fault.specs.Faults.{answer};
 ghost use Rattle.awd_header.specs.Header.{opening};
 use awd_fault::Fault;

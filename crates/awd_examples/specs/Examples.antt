@@ -4,10 +4,8 @@ use mathlib.Core.Path.{_≡_}
 use Prim.Native.Nat.{ℕ}
 use lib.Chars.{codes}
 use lib.ListN.{replicate, take}
-use Rattle.std.specs.declared.result.Result.{Result}
 use Rattle.std.specs.declared.result.Result.the-variants.{Ok, Err}
-use Rattle.awd_fault.specs.Faults.{Report, inHeader}
-use Rattle.awd_header.specs.declared.Header.{Header}
+use Rattle.awd_fault.specs.Faults.{inHeader}
 use Rattle.awd_header.specs.Header.{opening}
 use Rattle.awd_header.specs.Widths.{Sizes, widthsOf}
 use Rattle.awd_listing.specs.Listing.{listingOf, newline}

@@ -6,7 +6,7 @@ use Rattle.std.specs.Results.{isOk}
 use Rattle.std.specs.declared.option.Option.{Option}
 use Rattle.std.specs.declared.option.Option.the-variants.{Some, None}
 use Rattle.std.specs.declared.result.Result.{Result}
-use Rattle.std.specs.declared.result.Result.the-variants.{Ok, Err}
+use Rattle.std.specs.declared.result.Result.the-variants.{Err}
 use Rattle.awd_fault.specs.Faults.{Report, ofCall}
 use Rattle.awd_header.specs.Header.{opening, headerOf}
 use Rattle.awd_header.specs.declared.Header.{Header}

@@ -1,17 +1,16 @@
 -- Bytes of joined pages, out of those of the run.
 use mathlib.Core.Path.{_≡_, refl, sym, _∙_, ap}
 use mathlib.Core.Bool.{Bool, true, false, cond}
-use mathlib.Core.List.{List, [], _∷_, _++_}
+use mathlib.Core.List.{List, [], _∷_}
 use Prim.Native.Nat.{ℕ, zero, suc, _+_, _-_, _*_, _/_, _%_, _<_, _≤_}
 use native.Mathlib.Nat.{zero-add, div-add-mod, mod-lt}
 use native.Mathlib.Omega.{arith}
-use lib.Dec.{leb}
-use lib.ListN.{length, getD, take, drop, length-take, length-drop, length-append}
+use lib.ListN.{length, getD, drop, length-take, length-drop, length-append}
 use Rattle.std.specs.Joined.{joined}
 use Rattle.std.proofs.shelf.Tests.{leb-true, le-leb, lt-leb, lt-ltb, le-ltb, cond-true, cond-false}
 use Rattle.std.proofs.shelf.Lists.{getD-take, getD-drop, getD-append-left, getD-append-right, at-drop-more, at-drop-all}
-use Rattle.awd_source.specs.Bytes.{byteAt, part}
-use Rattle.std.specs.declared.result.Result.the-variants.{Ok, Err}
+use Rattle.awd_source.specs.Bytes.{byteAt}
+use Rattle.std.specs.declared.result.Result.the-variants.{Err}
 use Rattle.awd_fault.specs.Faults.{ofCall}
 use Rattle.awd_source.specs.Pages.{page, whole, wholeFront, paged, filling}
 
@@ -64,9 +63,6 @@ module _ (run : List ℕ) where
         rw (lt-ltb at (length (paged run ps size)) l, lt-ltb (512 * getD ps (at / 512) 0 + at % 512) (length run) (t .1), getD-take size (joined (page run) ps) at 0 h, e)
 
 -- one listed page further, or no further
-pub front-none : (run ps : List ℕ) → wholeFront run ps ≡ 0 + wholeFront run (drop 0 ps)
-front-none run ps = sym (zero-add (wholeFront run ps))
-
 front-at : (run ps : List ℕ) (i : ℕ) → i < length ps → wholeFront run (drop i ps) ≡ cond (whole run (getD ps i 0)) (1 + wholeFront run (drop (i + 1) ps)) 0
 front-at run ps i h = at-drop-more (wholeFront run) ps i 0 h
 
@@ -80,13 +76,8 @@ module _ (run ps : List ℕ) (i : ℕ) (so-far : wholeFront run ps ≡ i + whole
   pub front-all : length ps ≤ i → i ≤ length ps → wholeFront run ps ≡ length ps
   front-all h k = let f = at-drop-all (wholeFront run) ps i h in omega arith
 
-module _ (run ps : List ℕ) (size : ℕ) (enough : size ≤ 512 * length ps) where
-  pub fills : wholeFront run ps ≡ length ps → Ok tt ≡ filling run ps size
-  fills e =
-      let h : length ps ≤ wholeFront run ps = omega arith in
-      sym (cond-false _ _ _ (le-ltb _ _ enough) ∙ cond-false _ _ _ (le-ltb _ _ h))
-
-  pub outside : (i : ℕ) → i < length ps → wholeFront run ps ≡ i → Err (ofCall 28 i 0) ≡ filling run ps size
-  outside i h e =
-      let k : wholeFront run ps < length ps = omega arith in
-      sym (cond-false _ _ _ (le-ltb _ _ enough) ∙ cond-true _ _ _ (lt-ltb _ _ k) ∙ ap (λ n. Err (ofCall 28 n 0)) e)
+-- what filling tells of the first page that is not wholly inside the run
+pub outside : (run ps : List ℕ) (size : ℕ) → size ≤ 512 * length ps → (i : ℕ) → i < length ps → wholeFront run ps ≡ i → Err (ofCall 28 i 0) ≡ filling run ps size
+outside run ps size enough i h e =
+    let k : wholeFront run ps < length ps = omega arith in
+    sym (cond-false _ _ _ (le-ltb _ _ enough) ∙ cond-true _ _ _ (lt-ltb _ _ k) ∙ ap (λ n. Err (ofCall 28 n 0)) e)

@@ -1,4 +1,4 @@
-use mathlib.Core.Path.{_≡_, _∙_, ap}
+use mathlib.Core.Path.{_∙_, ap}
 use mathlib.Core.List.{[]}
 use Prim.Native.Nat.{_-_, _<_}
 use borrow.Author.Needs.{needs}
