@@ -1,8 +1,9 @@
 #!/usr/bin/env python3
 """Compares awdlist with a reader of AWD headers in Python that shares no code with it.
 
-The reader below was written from docs/FORMAT.md. Both are given sound documents, every value of every header byte,
-cut and lengthened documents and random ones; each must write the same.
+The reader below is by the same authors and from the same rules (docs/FORMAT.md has them), so it catches slips of the
+program and not a rule that was misread. Both are given sound documents, every value of every header byte, cut and
+lengthened documents and random ones; each must write the same.
 
 Usage: tests/compare.py target/bin/awdlist
 """

@@ -9,8 +9,9 @@ use lib.Dec.{eqb, leb}
 use lib.ListN.{length, getD, take}
 use Rattle.std.specs.declared.result.Result.{Result}
 use Rattle.std.specs.declared.result.Result.the-variants.{Ok, Err}
-use Rattle.std.specs.Results.{Cases}
+use Rattle.std.specs.Results.{Cases, andOther}
 use Rattle.std.specs.Vec.{refused}
+use Rattle.std.specs.shelf.Lists.{All}
 use Rattle.awd_fault.specs.declared.Fault.{Fault}
 use Rattle.awd_fault.specs.Faults.{Report, report, inHeader}
 use Rattle.awd_source.specs.Bytes.{part, le}
@@ -77,14 +78,9 @@ fieldRules b =
 abbrev pub rules : List ℕ → List Rule
 rules b = sizeRules b ++ (magicRules b ++ fieldRules b)
 
--- a value where nothing is refused
-abbrev pub accepted : {A : Type 0} → Result (Unit {0}) Report → A → Result A Report
-accepted (Ok _) x = Ok x
-accepted (Err e) x = Err e
-
--- what opening a list of bytes answers
+-- what opening a list of bytes answers: the fault of the judgement, or else what the header says
 abbrev pub opening : List ℕ → Result Header Report
-opening b = accepted (judged (rules b)) (headerOf b)
+opening b = andOther (judged (rules b)) (Ok (headerOf b))
 
 -- a document that may be opened
 pub record Lawful (b : List ℕ) : Type 0 where
@@ -97,8 +93,7 @@ pub record Lawful (b : List ℕ) : Type 0 where
   pub body : (streaming b ≡ true) ⊎ (12 + bodyLength b ≡ length b)
 
 abbrev pub AllKept : List Rule → Type 0
-AllKept [] = Unit {0}
-AllKept (r ∷ rs) = (r .kept ≡ true) × AllKept rs
+AllKept rs = All (λ r. r .kept ≡ true) rs
 
 -- a fault is that of the first broken rule: those before it are kept, and it is not
 pub record FirstBroken (rs : List Rule) (f : Report) : Type 0 where

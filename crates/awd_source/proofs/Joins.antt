@@ -8,7 +8,8 @@ use native.Mathlib.Omega.{arith}
 use lib.ListN.{length, getD, drop, length-take, length-drop, length-append}
 use Rattle.std.specs.Joined.{joined}
 use Rattle.std.proofs.shelf.Tests.{leb-true, le-leb, lt-leb, lt-ltb, le-ltb, cond-true, cond-false}
-use Rattle.std.proofs.shelf.Lists.{getD-take, getD-drop, getD-append-left, getD-append-right, at-drop-more, at-drop-all}
+use Rattle.std.proofs.shelf.Lists.{getD-take, getD-drop, getD-append-left, getD-append-right}
+use Rattle.std.proofs.shelf.Sums.{leading-drop-yes, leading-drop-no, leading-drop-all}
 use Rattle.awd_source.specs.Bytes.{byteAt}
 use Rattle.std.specs.declared.result.Result.the-variants.{Err}
 use Rattle.awd_fault.specs.Faults.{ofCall}
@@ -63,18 +64,15 @@ module _ (run : List ℕ) where
         rw (lt-ltb at (length (paged run ps size)) l, lt-ltb (512 * getD ps (at / 512) 0 + at % 512) (length run) (t .1), getD-take size (joined (page run) ps) at 0 h, e)
 
 -- one listed page further, or no further
-front-at : (run ps : List ℕ) (i : ℕ) → i < length ps → wholeFront run (drop i ps) ≡ cond (whole run (getD ps i 0)) (1 + wholeFront run (drop (i + 1) ps)) 0
-front-at run ps i h = at-drop-more (wholeFront run) ps i 0 h
-
 module _ (run ps : List ℕ) (i : ℕ) (so-far : wholeFront run ps ≡ i + wholeFront run (drop i ps)) where
   pub front-more : i < length ps → 512 * getD ps i 0 + 512 ≤ length run → wholeFront run ps ≡ i + 1 + wholeFront run (drop (i + 1) ps)
-  front-more h w = let f = front-at run ps i h ∙ cond-true _ _ _ (le-leb _ _ w) in omega arith
+  front-more h w = let f = leading-drop-yes (whole run) ps i 0 h (le-leb _ _ w) in omega arith
 
   pub front-ends : i < length ps → length run < 512 * getD ps i 0 + 512 → wholeFront run ps ≡ i
-  front-ends h w = let f = front-at run ps i h ∙ cond-false _ _ _ (lt-leb _ _ w) in omega arith
+  front-ends h w = let f = leading-drop-no (whole run) ps i 0 h (lt-leb _ _ w) in omega arith
 
   pub front-all : length ps ≤ i → i ≤ length ps → wholeFront run ps ≡ length ps
-  front-all h k = let f = at-drop-all (wholeFront run) ps i h in omega arith
+  front-all h k = let f = leading-drop-all (whole run) ps i h in omega arith
 
 -- what filling tells of the first page that is not wholly inside the run
 pub outside : (run ps : List ℕ) (size : ℕ) → size ≤ 512 * length ps → (i : ℕ) → i < length ps → wholeFront run ps ≡ i → Err (ofCall 28 i 0) ≡ filling run ps size

@@ -1,10 +1,11 @@
 -- Whole pages of a run, listed by number. Assumes nothing.
 use mathlib.Core.Bool.{Bool, cond}
-use mathlib.Core.List.{List, [], _∷_}
+use mathlib.Core.List.{List}
 use Prim.Native.Nat.{ℕ, _+_, _*_}
 use lib.Dec.{leb, ltb}
 use lib.ListN.{length, take}
 use Rattle.std.specs.Joined.{joined}
+use Rattle.std.specs.shelf.Lists.{leading}
 use Rattle.std.specs.declared.result.Result.{Result}
 use Rattle.std.specs.declared.result.Result.the-variants.{Ok, Err}
 use Rattle.awd_fault.specs.Faults.{Report, ofCall}
@@ -24,8 +25,7 @@ paged run list size = take size (joined (page run) list)
 
 -- how many listed pages stand before the first that is not wholly inside the run; all of them where there is none
 abbrev pub wholeFront : List ℕ → List ℕ → ℕ
-wholeFront run [] = 0
-wholeFront run (p ∷ ps) = cond (whole run p) (1 + wholeFront run ps) 0
+wholeFront run list = leading (whole run) list
 
 -- cause 27 for a length above that of the listed pages; then 28 at the first page not wholly inside the run
 abbrev pub filling : List ℕ → List ℕ → ℕ → Result (Unit {0}) Report
