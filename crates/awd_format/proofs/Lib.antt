@@ -1,0 +1,7 @@
+pub mod Numbers
+pub mod Standing
+pub mod SetLaws
+pub mod RunLaws
+pub mod ShapeLaws
+pub mod Locality
+pub mod Steps

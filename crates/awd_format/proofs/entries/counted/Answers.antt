@@ -1,0 +1,18 @@
+use native.Mathlib.Omega.{arith}
+use Rattle.awd_format.specs.Fields.{limit}
+use Rattle.awd_format.proofs.RunLaws.{counted-exact, counted-fault}
+use Rattle.awd_format.proofs.entries.counted.Needs as need
+
+pub returns : need.returns
+returns g c =
+    let read = g .K·EntryKind .reading (c .args .kind .now) in
+    let M = g .K·EntryKind .members (c .args .kind .now) in
+    let k = g .K·EntryKind·met .lawful (c .args .kind .now) in
+    let B = g .S·Source .bytes (c .args .source .now) in
+    let E = limit B (c .args .end) in
+    let is = c .row .ensures in
+    record {
+      read = is;
+      exact = counted-exact read M k B E (omega arith) (c .args .count) (c .args .at) (c .row .result) is;
+      first = counted-fault read M k B E (omega arith) (c .args .count) (c .args .at) (c .row .result) is;
+    }

@@ -1,0 +1,83 @@
+-- Shapes: a part of the format as a value, the set of byte lists that it stands for, and how it is read. Assumes nothing.
+use mathlib.Core.Path.{_≡_}
+use mathlib.Core.List.{List, []}
+use mathlib.Core.Bool.{Bool, cond, true}
+use Prim.Native.Nat.{ℕ, _+_, _-_}
+use Rattle.std.specs.declared.option.Option.{Option}
+use Rattle.std.specs.declared.option.Option.the-variants.{Some, None}
+use Rattle.std.specs.declared.result.Result.{Result}
+use Rattle.std.specs.declared.result.Result.the-variants.{Ok, Err}
+use Rattle.awd_fault.specs.declared.Cause.{Cause}
+use Rattle.awd_fault.specs.declared.Cause.the-variants.{ValueNotAllowed}
+use Rattle.awd_source.specs.Bytes.{le, part}
+use Rattle.awd_format.specs.declared.faults.FieldFault.{FieldFault}
+use Rattle.awd_format.specs.declared.faults.BlockFault.{BlockFault}
+use Rattle.awd_format.specs.declared.faults.BlockFault.the-variants.{Field, Entry}
+use Rattle.awd_format.specs.Faults.{fault, fieldOf, on, turned}
+use Rattle.awd_format.specs.Fields.{numberAt, bytesAt}
+use Rattle.awd_format.specs.Runs.{countedAt, measuredAt}
+use Rattle.awd_format.specs.Sets.{Wide, Then, Counted, Measured}
+
+pub data Shape : Type 0 where
+  -- a number of so many bytes, the values that it may have, the cause at any other, and what follows a value
+  number : ℕ → (ℕ → Bool) → Cause → (ℕ → Shape) → Shape
+  -- so many bytes of any content
+  bytes : ℕ → Shape
+  -- so many entries, each by its index
+  counted : ℕ → (ℕ → Shape) → Shape
+  -- entries that fill so many bytes, each by its index
+  measured : ℕ → (ℕ → Shape) → Shape
+  -- one after another
+  also : Shape → Shape → Shape
+  -- bytes that pass a further test, which gives their flaw if they have one: a cause, and a place counted from the first of them
+  sound : Shape → (List ℕ → Option FieldFault) → Shape
+
+-- a set, where a test holds
+abbrev pub Given : Bool → (List ℕ → Type 0) → List ℕ → Type 0
+Given b P m = (b ≡ true) × P m
+
+-- the byte lists that a shape stands for
+abbrev pub SetOf : Shape → List ℕ → Type 0
+SetOf (number width allowed cause next) = Then (Wide width) (λ digits. Given (allowed (le digits)) (SetOf (next (le digits))))
+SetOf (bytes n) = Wide n
+SetOf (counted n entry) = Counted (λ i. SetOf (entry i)) 0 n
+SetOf (measured n entry) = Measured (λ i. SetOf (entry i)) 0 n
+SetOf (also a b) = Then (SetOf a) (λ _. SetOf b)
+SetOf (sound a flaw) = λ m. SetOf a m × (flaw m ≡ None)
+
+-- the place e behind bytes that begin at a place, or their flaw
+abbrev pub tested : ℕ → ℕ → Option FieldFault → Result ℕ BlockFault
+tested at e None = Ok e
+tested at e (Some x) = Err (Field (fault (x .cause) (at + x .place)))
+
+-- how a shape is read from a place in a holder that ends at end: the place behind it, or its first fault. A fault in an entry's own runs is
+-- told as one of that entry.
+abbrev pub readOf : Shape → List ℕ → ℕ → ℕ → Result ℕ BlockFault
+readOf (number width allowed cause next) B at end =
+    on Field (numberAt B at end width)
+      (λ v. cond (allowed v) (readOf (next v) B (at + width) end) (Err (Field (fault cause at))))
+readOf (bytes n) B at end = turned Field (bytesAt at end n)
+readOf (counted n entry) B at end = turned Entry (countedAt (λ i C p q. turned fieldOf (readOf (entry i) C p q)) B end n 0 at)
+readOf (measured n entry) B at end = measuredAt (λ i C p q. turned fieldOf (readOf (entry i) C p q)) B at end n
+readOf (also a b) B at end = on (λ x. x) (readOf a B at end) (λ e. readOf b B e end)
+readOf (sound a flaw) B at end = on (λ x. x) (readOf a B at end) (λ e. tested at e (flaw (part B at (e - at))))
+
+-- how a shape is read as an entry
+abbrev pub entryOf : Shape → List ℕ → ℕ → ℕ → Result ℕ FieldFault
+entryOf L B at end = turned fieldOf (readOf L B at end)
+
+-- the entries of its runs are not empty
+abbrev pub Filled : Shape → Type 0
+Filled (number width allowed cause next) = (v : ℕ) → Filled (next v)
+Filled (bytes n) = Unit {0}
+Filled (counted n entry) = (i : ℕ) → (SetOf (entry i) [] → ⊥) × Filled (entry i)
+Filled (measured n entry) = (i : ℕ) → (SetOf (entry i) [] → ⊥) × Filled (entry i)
+Filled (also a b) = Filled a × Filled b
+Filled (sound a flaw) = Filled a
+
+abbrev pub any : ℕ → Bool
+any v = true
+
+-- a text: a length (2) and that many bytes
+abbrev pub text : Shape
+text = number 2 any ValueNotAllowed (λ n. bytes n)

@@ -1,0 +1,100 @@
+// Runs of entries, written once for any kind of entry: so many of them, or as many as fill so many bytes.
+ghost use mathlib.Core.List.{List};
+ghost use mathlib.Core.Path.{_≡_};
+ghost use Prim.Native.Nat.{ℕ, _+_, _-_, _<_, _≤_};
+ghost use lib.ListN.{length};
+ghost use Rattle.std.specs.Vec.{made};
+ghost use Rattle.awd_format.specs.Faults.{inEntry, turned};
+ghost use Rattle.awd_format.specs.Fields.{limit};
+ghost use Rattle.awd_format.specs.Runs.{Reading, KindLaw, countedAt, fillingAt, measuredAt, CountedFault, MeasuredFault};
+ghost use Rattle.awd_format.specs.Sets.{Reads, Counted, Measured};
+use crate::faults::BlockFault;
+use crate::faults::BlockFromEntry;
+use crate::faults::BlockFromField;
+use crate::faults::EntryFault;
+use crate::faults::EntryFromField;
+use crate::faults::FieldFault;
+use crate::fields::bytes_at;
+use awd_source::Source;
+
+// A kind of entry. It stands for a set of byte lists, which may depend on the entry's index in its run.
+pub trait EntryKind {
+    // how the entry of an index is read
+    ghost reading: { Self → Reading };
+
+    // the byte lists that it may be
+    ghost members: { Self → ℕ → List ℕ → Type 0 };
+
+    law lawful: { (kind : Self) → KindLaw (reading kind) (members kind) };
+
+    // The place behind the entry of an index.
+    fn read<S: Source>(&self, source: &S, at: u64, end: u64, index: u64) -> Result<u64, FieldFault>
+        ensures read { λ r. ⌜ r ≡ reading (now (self .entry)) index (S·Source .bytes (now (source .entry))) at (limit (S·Source .bytes (now (source .entry))) end) ⌝ }
+        ensures fits { λ r. ⌜ made r (λ e. (at < e) × (e ≤ end) × (e ≤ length (S·Source .bytes (now (source .entry))))) ⌝ };
+}
+
+// A fault beside the index of its entry, which is what an entry's fault is made from.
+fn beside(index: u64, r: Result<u64, FieldFault>) -> Result<u64, (u64, FieldFault)>
+    ensures { λ q. ⌜ q ≡ turned (λ x. (index, x)) r ⌝ }
+{
+    match r {
+        Ok(behind) => Ok(behind),
+        Err(field) => Err((index, field)),
+    }
+}
+
+// One entry of a run; its fault has its index.
+fn entry_at<S: Source, K: EntryKind>(source: &S, kind: &K, at: u64, end: u64, index: u64) -> Result<u64, EntryFault>
+    ensures read { λ r. ⌜ r ≡ turned (inEntry index) (K·EntryKind .reading (now (kind .entry)) index (S·Source .bytes (now (source .entry))) at (limit (S·Source .bytes (now (source .entry))) end)) ⌝ }
+    ensures fits { λ r. ⌜ made r (λ e. (at < e) × (e ≤ end) × (e ≤ length (S·Source .bytes (now (source .entry))))) ⌝ }
+{
+    let behind = beside(index, kind.read(source, at, end, index))?;
+    Ok(behind)
+}
+
+// So many entries, one after another.
+fn row<S: Source, K: EntryKind>(source: &S, kind: &K, at: u64, end: u64, count: u64) -> Result<u64, EntryFault>
+    ensures { λ r. ⌜ r ≡ countedAt (K·EntryKind .reading (now (kind .entry))) (S·Source .bytes (now (source .entry))) (limit (S·Source .bytes (now (source .entry))) end) count 0 at ⌝ }
+{
+    let mut place = at;
+    for index in 0..count {
+        place = entry_at(source, kind, place, end, index)?;
+    }
+    Ok(place)
+}
+
+// Entries as far as their holder's end.
+fn filling<S: Source, K: EntryKind>(source: &S, kind: &K, at: u64, end: u64) -> Result<u64, EntryFault>
+    requires { ⌜ at ≤ end ⌝ ∗ ⌜ end ≤ length (S·Source .bytes (now source)) ⌝ }
+    ensures read { λ r. ⌜ r ≡ fillingAt (K·EntryKind .reading (now (kind .entry))) (S·Source .bytes (now (source .entry))) end (end - at) 0 at ⌝ }
+    ensures fits { λ r. ⌜ made r (λ e. e ≡ end) ⌝ }
+{
+    let mut place = at;
+    let mut index = 0;
+    while place < end {
+        place = entry_at(source, kind, place, end, index)?;
+        index += 1;
+    }
+    Ok(place)
+}
+
+// The place behind so many entries.
+pub fn counted<S: Source, K: EntryKind>(source: &S, kind: &K, at: u64, end: u64, count: u64) -> Result<u64, EntryFault>
+    ensures read { λ r. ⌜ r ≡ countedAt (K·EntryKind .reading (now (kind .entry))) (S·Source .bytes (now (source .entry))) (limit (S·Source .bytes (now (source .entry))) end) count 0 at ⌝ }
+    ensures exact { λ r. ⌜ (at ≤ limit (S·Source .bytes (now (source .entry))) end → Reads (Counted (K·EntryKind .members (now (kind .entry))) 0 count) (S·Source .bytes (now (source .entry))) at (limit (S·Source .bytes (now (source .entry))) end) r) ⌝ }
+    ensures first { λ r. ⌜ (at ≤ limit (S·Source .bytes (now (source .entry))) end → CountedFault (K·EntryKind .reading (now (kind .entry))) (K·EntryKind .members (now (kind .entry))) (S·Source .bytes (now (source .entry))) at (limit (S·Source .bytes (now (source .entry))) end) r) ⌝ }
+{
+    row(source, kind, at, end, count)
+}
+
+// The place behind a run that fills so many bytes. The run must fit its holder; its entries must fit the run.
+pub fn measured<S: Source, K: EntryKind>(source: &S, kind: &K, at: u64, end: u64, size: u64) -> Result<u64, BlockFault>
+    ensures read { λ r. ⌜ r ≡ measuredAt (K·EntryKind .reading (now (kind .entry))) (S·Source .bytes (now (source .entry))) at (limit (S·Source .bytes (now (source .entry))) end) size ⌝ }
+    ensures fits { λ r. ⌜ made r (λ e. (e ≡ at + size) × (e ≤ end) × (e ≤ length (S·Source .bytes (now (source .entry))))) ⌝ }
+    ensures exact { λ r. ⌜ Reads (Measured (K·EntryKind .members (now (kind .entry))) 0 size) (S·Source .bytes (now (source .entry))) at (limit (S·Source .bytes (now (source .entry))) end) r ⌝ }
+    ensures first { λ r. ⌜ MeasuredFault (K·EntryKind .reading (now (kind .entry))) (K·EntryKind .members (now (kind .entry))) (S·Source .bytes (now (source .entry))) at (limit (S·Source .bytes (now (source .entry))) end) size r ⌝ }
+{
+    let stop = bytes_at(source, at, end, size)?;
+    let behind = filling(source, kind, at, stop)?;
+    Ok(behind)
+}
