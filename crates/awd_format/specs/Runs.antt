@@ -12,7 +12,7 @@ use Rattle.awd_format.specs.declared.faults.EntryFault.{EntryFault}
 use Rattle.awd_format.specs.declared.faults.BlockFault.{BlockFault}
 use Rattle.awd_format.specs.declared.faults.BlockFault.the-variants.{Header, Field, Entry}
 use Rattle.awd_format.specs.Faults.{inEntry, short, on, turned}
-use Rattle.awd_format.specs.Fields.{bytesAt}
+use Rattle.awd_format.specs.Fields.{bytesAt, numberAt}
 use Rattle.awd_format.specs.Sets.{Stands, Reads, NoneBegins, Counted}
 
 -- how the entry of an index is read in bytes, from a place, in a holder that ends at a place: the place behind it, or its fault
@@ -32,6 +32,10 @@ fillingAt read B end (suc n) i at = cond (eqb at end) (Ok at) (on (inEntry i) (r
 -- a run that fills so many bytes: first it must fit, then its entries are read, with its own end as their holder's
 abbrev pub measuredAt : Reading → List ℕ → ℕ → ℕ → ℕ → Result ℕ BlockFault
 measuredAt read B at end size = on Field (bytesAt at end size) (λ stop. turned Entry (fillingAt read B stop size 0 at))
+
+-- a total (4), and a run that fills so many bytes
+abbrev pub listAt : Reading → List ℕ → ℕ → ℕ → Result ℕ BlockFault
+listAt read B at end = on Field (numberAt B at end 4) (λ total. measuredAt read B (at + 4) end total)
 
 -- the law of a kind of entry: of the sets that it stands for, none has an empty member, none a member that begins another, and each
 -- is read exactly

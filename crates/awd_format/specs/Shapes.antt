@@ -78,6 +78,14 @@ Filled (sound a flaw) = Filled a
 abbrev pub any : ℕ → Bool
 any v = true
 
+-- a number of any value, and what follows it
+abbrev pub anyNumber : ℕ → (ℕ → Shape) → Shape
+anyNumber width next = number width any ValueNotAllowed next
+
 -- a text: a length (2) and that many bytes
 abbrev pub text : Shape
-text = number 2 any ValueNotAllowed (λ n. bytes n)
+text = anyNumber 2 (λ n. bytes n)
+
+-- a list: a total (4) and entries that fill so many bytes; the total does not count itself
+abbrev pub list : (ℕ → Shape) → Shape
+list entry = anyNumber 4 (λ total. measured total entry)

@@ -4,9 +4,10 @@ ghost use mathlib.Core.Path.{_≡_};
 ghost use Prim.Native.Nat.{ℕ, _+_, _-_, _<_, _≤_};
 ghost use lib.ListN.{length};
 ghost use Rattle.std.specs.Vec.{made};
+ghost use Rattle.awd_source.specs.Bytes.{le, part};
 ghost use Rattle.awd_format.specs.Faults.{inEntry, turned};
 ghost use Rattle.awd_format.specs.Fields.{limit};
-ghost use Rattle.awd_format.specs.Runs.{Reading, KindLaw, countedAt, fillingAt, measuredAt, CountedFault, MeasuredFault};
+ghost use Rattle.awd_format.specs.Runs.{Reading, KindLaw, countedAt, fillingAt, measuredAt, listAt, CountedFault, MeasuredFault};
 ghost use Rattle.awd_format.specs.Sets.{Reads, Counted, Measured};
 use crate::faults::BlockFault;
 use crate::faults::BlockFromEntry;
@@ -15,6 +16,7 @@ use crate::faults::EntryFault;
 use crate::faults::EntryFromField;
 use crate::faults::FieldFault;
 use crate::fields::bytes_at;
+use crate::fields::u32_at;
 use awd_source::Source;
 
 // A kind of entry. It stands for a set of byte lists, which may depend on the entry's index in its run.
@@ -29,8 +31,8 @@ pub trait EntryKind {
 
     // The place behind the entry of an index.
     fn read<S: Source>(&self, source: &S, at: u64, end: u64, index: u64) -> Result<u64, FieldFault>
-        ensures read { λ r. ⌜ r ≡ reading (now (self .entry)) index (S·Source .bytes (now (source .entry))) at (limit (S·Source .bytes (now (source .entry))) end) ⌝ }
-        ensures fits { λ r. ⌜ made r (λ e. (at < e) × (e ≤ end) × (e ≤ length (S·Source .bytes (now (source .entry))))) ⌝ };
+        ensures read { λ r. let B = S·Source .bytes (now (source .entry)) in ⌜ r ≡ reading (now (self .entry)) index B at (limit B end) ⌝ }
+        ensures fits { λ r. let B = S·Source .bytes (now (source .entry)) in ⌜ made r (λ e. (at < e) × (e ≤ end) × (e ≤ length B)) ⌝ };
 }
 
 // A fault beside the index of its entry, which is what an entry's fault is made from.
@@ -45,8 +47,8 @@ fn beside(index: u64, r: Result<u64, FieldFault>) -> Result<u64, (u64, FieldFaul
 
 // One entry of a run; its fault has its index.
 fn entry_at<S: Source, K: EntryKind>(source: &S, kind: &K, at: u64, end: u64, index: u64) -> Result<u64, EntryFault>
-    ensures read { λ r. ⌜ r ≡ turned (inEntry index) (K·EntryKind .reading (now (kind .entry)) index (S·Source .bytes (now (source .entry))) at (limit (S·Source .bytes (now (source .entry))) end)) ⌝ }
-    ensures fits { λ r. ⌜ made r (λ e. (at < e) × (e ≤ end) × (e ≤ length (S·Source .bytes (now (source .entry))))) ⌝ }
+    ensures read { λ r. let B = S·Source .bytes (now (source .entry)) in let read = K·EntryKind .reading (now (kind .entry)) in ⌜ r ≡ turned (inEntry index) (read index B at (limit B end)) ⌝ }
+    ensures fits { λ r. let B = S·Source .bytes (now (source .entry)) in ⌜ made r (λ e. (at < e) × (e ≤ end) × (e ≤ length B)) ⌝ }
 {
     let behind = beside(index, kind.read(source, at, end, index))?;
     Ok(behind)
@@ -54,7 +56,7 @@ fn entry_at<S: Source, K: EntryKind>(source: &S, kind: &K, at: u64, end: u64, in
 
 // So many entries, one after another.
 fn row<S: Source, K: EntryKind>(source: &S, kind: &K, at: u64, end: u64, count: u64) -> Result<u64, EntryFault>
-    ensures { λ r. ⌜ r ≡ countedAt (K·EntryKind .reading (now (kind .entry))) (S·Source .bytes (now (source .entry))) (limit (S·Source .bytes (now (source .entry))) end) count 0 at ⌝ }
+    ensures { λ r. let B = S·Source .bytes (now (source .entry)) in let read = K·EntryKind .reading (now (kind .entry)) in ⌜ r ≡ countedAt read B (limit B end) count 0 at ⌝ }
 {
     let mut place = at;
     for index in 0..count {
@@ -66,7 +68,7 @@ fn row<S: Source, K: EntryKind>(source: &S, kind: &K, at: u64, end: u64, count: 
 // Entries as far as their holder's end.
 fn filling<S: Source, K: EntryKind>(source: &S, kind: &K, at: u64, end: u64) -> Result<u64, EntryFault>
     requires { ⌜ at ≤ end ⌝ ∗ ⌜ end ≤ length (S·Source .bytes (now source)) ⌝ }
-    ensures read { λ r. ⌜ r ≡ fillingAt (K·EntryKind .reading (now (kind .entry))) (S·Source .bytes (now (source .entry))) end (end - at) 0 at ⌝ }
+    ensures read { λ r. let B = S·Source .bytes (now (source .entry)) in let read = K·EntryKind .reading (now (kind .entry)) in ⌜ r ≡ fillingAt read B end (end - at) 0 at ⌝ }
     ensures fits { λ r. ⌜ made r (λ e. e ≡ end) ⌝ }
 {
     let mut place = at;
@@ -80,21 +82,31 @@ fn filling<S: Source, K: EntryKind>(source: &S, kind: &K, at: u64, end: u64) -> 
 
 // The place behind so many entries.
 pub fn counted<S: Source, K: EntryKind>(source: &S, kind: &K, at: u64, end: u64, count: u64) -> Result<u64, EntryFault>
-    ensures read { λ r. ⌜ r ≡ countedAt (K·EntryKind .reading (now (kind .entry))) (S·Source .bytes (now (source .entry))) (limit (S·Source .bytes (now (source .entry))) end) count 0 at ⌝ }
-    ensures exact { λ r. ⌜ (at ≤ limit (S·Source .bytes (now (source .entry))) end → Reads (Counted (K·EntryKind .members (now (kind .entry))) 0 count) (S·Source .bytes (now (source .entry))) at (limit (S·Source .bytes (now (source .entry))) end) r) ⌝ }
-    ensures first { λ r. ⌜ (at ≤ limit (S·Source .bytes (now (source .entry))) end → CountedFault (K·EntryKind .reading (now (kind .entry))) (K·EntryKind .members (now (kind .entry))) (S·Source .bytes (now (source .entry))) at (limit (S·Source .bytes (now (source .entry))) end) r) ⌝ }
+    ensures read { λ r. let B = S·Source .bytes (now (source .entry)) in let read = K·EntryKind .reading (now (kind .entry)) in ⌜ r ≡ countedAt read B (limit B end) count 0 at ⌝ }
+    ensures exact { λ r. let B = S·Source .bytes (now (source .entry)) in let M = K·EntryKind .members (now (kind .entry)) in ⌜ (at ≤ limit B end → Reads (Counted M 0 count) B at (limit B end) r) ⌝ }
+    ensures first { λ r. let B = S·Source .bytes (now (source .entry)) in let read = K·EntryKind .reading (now (kind .entry)) in let M = K·EntryKind .members (now (kind .entry)) in ⌜ (at ≤ limit B end → CountedFault read M B at (limit B end) r) ⌝ }
 {
     row(source, kind, at, end, count)
 }
 
 // The place behind a run that fills so many bytes. The run must fit its holder; its entries must fit the run.
 pub fn measured<S: Source, K: EntryKind>(source: &S, kind: &K, at: u64, end: u64, size: u64) -> Result<u64, BlockFault>
-    ensures read { λ r. ⌜ r ≡ measuredAt (K·EntryKind .reading (now (kind .entry))) (S·Source .bytes (now (source .entry))) at (limit (S·Source .bytes (now (source .entry))) end) size ⌝ }
-    ensures fits { λ r. ⌜ made r (λ e. (e ≡ at + size) × (e ≤ end) × (e ≤ length (S·Source .bytes (now (source .entry))))) ⌝ }
-    ensures exact { λ r. ⌜ Reads (Measured (K·EntryKind .members (now (kind .entry))) 0 size) (S·Source .bytes (now (source .entry))) at (limit (S·Source .bytes (now (source .entry))) end) r ⌝ }
-    ensures first { λ r. ⌜ MeasuredFault (K·EntryKind .reading (now (kind .entry))) (K·EntryKind .members (now (kind .entry))) (S·Source .bytes (now (source .entry))) at (limit (S·Source .bytes (now (source .entry))) end) size r ⌝ }
+    ensures read { λ r. let B = S·Source .bytes (now (source .entry)) in let read = K·EntryKind .reading (now (kind .entry)) in ⌜ r ≡ measuredAt read B at (limit B end) size ⌝ }
+    ensures fits { λ r. let B = S·Source .bytes (now (source .entry)) in ⌜ made r (λ e. (e ≡ at + size) × (e ≤ end) × (e ≤ length B)) ⌝ }
+    ensures exact { λ r. let B = S·Source .bytes (now (source .entry)) in let M = K·EntryKind .members (now (kind .entry)) in ⌜ Reads (Measured M 0 size) B at (limit B end) r ⌝ }
+    ensures first { λ r. let B = S·Source .bytes (now (source .entry)) in let read = K·EntryKind .reading (now (kind .entry)) in let M = K·EntryKind .members (now (kind .entry)) in ⌜ MeasuredFault read M B at (limit B end) size r ⌝ }
 {
     let stop = bytes_at(source, at, end, size)?;
     let behind = filling(source, kind, at, stop)?;
+    Ok(behind)
+}
+
+// The place behind a list: its total in four bytes, and then entries that fill so many bytes.
+pub fn list_at<S: Source, K: EntryKind>(source: &S, kind: &K, at: u64, end: u64) -> Result<u64, BlockFault>
+    ensures read { λ r. let B = S·Source .bytes (now (source .entry)) in let read = K·EntryKind .reading (now (kind .entry)) in ⌜ r ≡ listAt read B at (limit B end) ⌝ }
+    ensures fits { λ r. let B = S·Source .bytes (now (source .entry)) in ⌜ made r (λ e. (e ≡ at + 4 + le (part B at 4)) × (e ≤ end) × (e ≤ length B)) ⌝ }
+{
+    let total = u32_at(source, at, end)?;
+    let behind = measured(source, kind, at + 4, end, u64::from(total))?;
     Ok(behind)
 }

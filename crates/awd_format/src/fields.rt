@@ -4,6 +4,7 @@ ghost use mathlib.Core.Path.{_≡_};
 ghost use Prim.Native.Nat.{_+_, _^_, _<_, _≤_};
 ghost use lib.ListN.{length};
 ghost use Rattle.std.specs.Vec.{made};
+ghost use Rattle.awd_source.specs.Bytes.{le, part};
 ghost use Rattle.awd_format.specs.Fields.{limit, bytesAt, numberAt};
 ghost use Rattle.awd_format.specs.Shapes.{readOf, text};
 use crate::faults::BlockFault;
@@ -14,8 +15,8 @@ use awd_source::Source;
 
 // The place behind so many bytes, whatever they are.
 pub fn bytes_at<S: Source>(source: &S, at: u64, end: u64, size: u64) -> Result<u64, FieldFault>
-    ensures behind { λ r. ⌜ r ≡ bytesAt at (limit (S·Source .bytes (now (source .entry))) end) size ⌝ }
-    ensures fits { λ r. ⌜ made r (λ e. (e ≡ at + size) × (e ≤ end) × (e ≤ length (S·Source .bytes (now (source .entry))))) ⌝ }
+    ensures behind { λ r. let B = S·Source .bytes (now (source .entry)) in ⌜ r ≡ bytesAt at (limit B end) size ⌝ }
+    ensures fits { λ r. let B = S·Source .bytes (now (source .entry)) in ⌜ made r (λ e. (e ≡ at + size) × (e ≤ end) × (e ≤ length B)) ⌝ }
 {
     let end = end.min(source.length());
     if at > end || size > end - at {
@@ -27,14 +28,20 @@ pub fn bytes_at<S: Source>(source: &S, at: u64, end: u64, size: u64) -> Result<u
     Ok(at + size)
 }
 
-// A little-endian number of up to 8 bytes.
-fn number_at<S: Source>(source: &S, at: u64, end: u64, width: u64) -> Result<u64, FieldFault>
-    requires { ⌜ width ≤ 8 ⌝ }
-    ensures value { λ r. ⌜ r ≡ numberAt (S·Source .bytes (now (source .entry))) at (limit (S·Source .bytes (now (source .entry))) end) width ⌝ }
-    ensures below { λ r. ⌜ made r (λ v. v < 256 ^ width) ⌝ }
-    ensures fits { λ r. ⌜ made r (λ v. at + width ≤ end) ⌝ }
+// How many bytes a number has.
+#[derive(Clone, Copy)]
+pub struct NumberSize {
+    pub bytes: u64,
+    ghost some: { 1 ≤ bytes },
+    ghost few: { bytes ≤ 8 },
+}
+
+// A little-endian number: the lowest byte comes first.
+pub fn number_at<S: Source>(source: &S, at: u64, end: u64, size: NumberSize) -> Result<u64, FieldFault>
+    ensures value { λ r. let B = S·Source .bytes (now (source .entry)) in ⌜ r ≡ numberAt B at (limit B end) (size .bytes) ⌝ }
+    ensures fits { λ r. let B = S·Source .bytes (now (source .entry)) in ⌜ made r (λ v. (at + size .bytes ≤ end) × (at + size .bytes ≤ length B) × (v ≡ le (part B at (size .bytes))) × (v < 256 ^ size .bytes)) ⌝ }
 {
-    let stop = bytes_at(source, at, end, width)?;
+    let stop = bytes_at(source, at, end, size.bytes)?;
     let mut value: u64 = 0;
     for place in (at..stop).rev() {
         // the number fits its holder, so the byte is there
@@ -47,40 +54,41 @@ fn number_at<S: Source>(source: &S, at: u64, end: u64, width: u64) -> Result<u64
 }
 
 pub fn u8_at<S: Source>(source: &S, at: u64, end: u64) -> Result<u8, FieldFault>
-    ensures value { λ r. ⌜ r ≡ numberAt (S·Source .bytes (now (source .entry))) at (limit (S·Source .bytes (now (source .entry))) end) 1 ⌝ }
-    ensures fits { λ r. ⌜ made r (λ v. at + 1 ≤ end) ⌝ }
+    ensures value { λ r. let B = S·Source .bytes (now (source .entry)) in ⌜ r ≡ numberAt B at (limit B end) 1 ⌝ }
+    ensures fits { λ r. let B = S·Source .bytes (now (source .entry)) in ⌜ made r (λ v. (at + 1 ≤ end) × (at + 1 ≤ length B) × (v ≡ le (part B at 1))) ⌝ }
 {
-    let value = number_at(source, at, end, 1)?;
+    let value = number_at(source, at, end, NumberSize { bytes: 1 })?;
     Ok(value as u8)
 }
 
 pub fn u16_at<S: Source>(source: &S, at: u64, end: u64) -> Result<u16, FieldFault>
-    ensures value { λ r. ⌜ r ≡ numberAt (S·Source .bytes (now (source .entry))) at (limit (S·Source .bytes (now (source .entry))) end) 2 ⌝ }
-    ensures fits { λ r. ⌜ made r (λ v. at + 2 ≤ end) ⌝ }
+    ensures value { λ r. let B = S·Source .bytes (now (source .entry)) in ⌜ r ≡ numberAt B at (limit B end) 2 ⌝ }
+    ensures fits { λ r. let B = S·Source .bytes (now (source .entry)) in ⌜ made r (λ v. (at + 2 ≤ end) × (at + 2 ≤ length B) × (v ≡ le (part B at 2))) ⌝ }
 {
-    let value = number_at(source, at, end, 2)?;
+    let value = number_at(source, at, end, NumberSize { bytes: 2 })?;
     Ok(value as u16)
 }
 
 pub fn u32_at<S: Source>(source: &S, at: u64, end: u64) -> Result<u32, FieldFault>
-    ensures value { λ r. ⌜ r ≡ numberAt (S·Source .bytes (now (source .entry))) at (limit (S·Source .bytes (now (source .entry))) end) 4 ⌝ }
-    ensures fits { λ r. ⌜ made r (λ v. at + 4 ≤ end) ⌝ }
+    ensures value { λ r. let B = S·Source .bytes (now (source .entry)) in ⌜ r ≡ numberAt B at (limit B end) 4 ⌝ }
+    ensures fits { λ r. let B = S·Source .bytes (now (source .entry)) in ⌜ made r (λ v. (at + 4 ≤ end) × (at + 4 ≤ length B) × (v ≡ le (part B at 4))) ⌝ }
 {
-    let value = number_at(source, at, end, 4)?;
+    let value = number_at(source, at, end, NumberSize { bytes: 4 })?;
     Ok(value as u32)
 }
 
 pub fn u64_at<S: Source>(source: &S, at: u64, end: u64) -> Result<u64, FieldFault>
-    ensures value { λ r. ⌜ r ≡ numberAt (S·Source .bytes (now (source .entry))) at (limit (S·Source .bytes (now (source .entry))) end) 8 ⌝ }
-    ensures fits { λ r. ⌜ made r (λ v. at + 8 ≤ end) ⌝ }
+    ensures value { λ r. let B = S·Source .bytes (now (source .entry)) in ⌜ r ≡ numberAt B at (limit B end) 8 ⌝ }
+    ensures fits { λ r. let B = S·Source .bytes (now (source .entry)) in ⌜ made r (λ v. (at + 8 ≤ end) × (at + 8 ≤ length B) × (v ≡ le (part B at 8))) ⌝ }
 {
-    number_at(source, at, end, 8)
+    let value = number_at(source, at, end, NumberSize { bytes: 8 })?;
+    Ok(value)
 }
 
 // The place behind a text: its length in two bytes, and then its bytes.
 pub fn text_at<S: Source>(source: &S, at: u64, end: u64) -> Result<u64, BlockFault>
-    ensures read { λ r. ⌜ r ≡ readOf text (S·Source .bytes (now (source .entry))) at (limit (S·Source .bytes (now (source .entry))) end) ⌝ }
-    ensures fits { λ r. ⌜ made r (λ e. (at + 2 ≤ e) × (e ≤ end)) ⌝ }
+    ensures read { λ r. let B = S·Source .bytes (now (source .entry)) in ⌜ r ≡ readOf text B at (limit B end) ⌝ }
+    ensures fits { λ r. let B = S·Source .bytes (now (source .entry)) in ⌜ made r (λ e. (e ≡ at + 2 + le (part B at 2)) × (e ≤ end) × (e ≤ length B)) ⌝ }
 {
     let size = u16_at(source, at, end)?;
     let behind = bytes_at(source, at + 2, end, u64::from(size))?;

@@ -8,6 +8,7 @@ mod laws;
 
 pub use entries::EntryKind;
 pub use entries::counted;
+pub use entries::list_at;
 pub use entries::measured;
 pub use faults::BlockFault;
 pub use faults::BlockFromEntry;
@@ -16,7 +17,9 @@ pub use faults::EntryFault;
 pub use faults::EntryFromField;
 pub use faults::FieldFault;
 pub use faults::FieldFromBlock;
+pub use fields::NumberSize;
 pub use fields::bytes_at;
+pub use fields::number_at;
 pub use fields::text_at;
 pub use fields::u16_at;
 pub use fields::u32_at;

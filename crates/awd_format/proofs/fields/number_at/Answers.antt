@@ -45,10 +45,11 @@ returns g c =
     let v = c .loop-place .value in
     let all : c .loop-place .place ≡ at = omega arith in
     let is : v ≡ le (part B at (stop - at)) = subst (λ p. v ≡ le (part B p (stop - p))) all (c .loop-place .inv .1) in
-    let small : v < 256 ^ (stop - at) = subst (λ p. v < 256 ^ (stop - p)) all (c .loop-place .inv .2) in
-    let w : stop - at ≡ c .args .width = omega arith in
+    let below : v < 256 ^ (stop - at) = subst (λ p. v < 256 ^ (stop - p)) all (c .loop-place .inv .2) in
+    let w : stop - at ≡ c .args .size .bytes = omega arith in
+    let small : v < 256 ^ (c .args .size .bytes) = subst (λ n. v < 256 ^ n) w below in
+    let there : v ≡ le (part B at (c .args .size .bytes)) = subst (λ n. v ≡ le (part B at n)) w is in
     record {
-      value = told B at (limit B (c .args .end)) (c .args .width) stop v (omega arith) (fits .0) is;
-      below = subst (λ n. v < 256 ^ n) w small;
-      fits = omega arith;
+      value = told B at (limit B (c .args .end)) (c .args .size .bytes) stop v (omega arith) (fits .0) is;
+      fits = (omega arith, omega arith, there, small);
     }
