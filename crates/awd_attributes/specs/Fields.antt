@@ -1,0 +1,19 @@
+-- Where the fields of a user attribute lie that begins at a place. Assumes nothing.
+use Prim.Native.Nat.{ℕ, _+_}
+use mathlib.Core.List.{List}
+use Rattle.awd_source.specs.Bytes.{le, part}
+
+abbrev pub keySize : List ℕ → ℕ → ℕ
+keySize B at = le (part B (at + 1) 2)
+
+abbrev pub keyAt : ℕ → ℕ
+keyAt at = at + 1 + 2
+
+abbrev pub typeAt : List ℕ → ℕ → ℕ
+typeAt B at = keyAt at + keySize B at
+
+abbrev pub valueSize : List ℕ → ℕ → ℕ
+valueSize B at = le (part B (typeAt B at + 1) 4)
+
+abbrev pub valueAt : List ℕ → ℕ → ℕ
+valueAt B at = typeAt B at + 1 + 4

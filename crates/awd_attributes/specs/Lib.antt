@@ -1,0 +1,4 @@
+pub mod Types
+pub mod Attributes
+pub mod Fields
+pub mod Behind

@@ -1,0 +1,117 @@
+// The two kinds of attribute as entries of runs, and the lists of them.
+ghost use mathlib.Core.Path.{_≡_};
+ghost use Prim.Native.Nat.{_+_, _≤_};
+ghost use lib.ListN.{length};
+ghost use Rattle.std.specs.Vec.{made};
+ghost use Rattle.awd_source.specs.Bytes.{le, part};
+ghost use Rattle.awd_format.specs.Fields.{limit};
+ghost use Rattle.awd_format.specs.Shapes.{SetOf, readOf, entryOf};
+ghost use Rattle.awd_fault.specs.declared.Cause.the-variants.{ValueNotAllowed};
+ghost use Rattle.awd_format.specs.Faults.{fault};
+ghost use Rattle.awd_attributes.specs.Fields.{typeAt, valueAt, valueSize};
+ghost use Rattle.awd_attributes.specs.Behind.{behindOf};
+ghost use Rattle.awd_attributes.specs.Types.{typeNumber};
+ghost use Rattle.awd_attributes.specs.Attributes.{numeric, user, properties, userList};
+use crate::types::ValueType;
+use awd_fault::Cause;
+use awd_format::BlockFault;
+use awd_format::EntryKind;
+use awd_format::FieldFault;
+use awd_format::FieldFromBlock;
+use awd_format::bytes_at;
+use awd_format::list_at;
+use awd_format::text_at;
+use awd_format::u16_at;
+use awd_format::u32_at;
+use awd_format::u8_at;
+use awd_source::Source;
+
+// A number for a key, and a value of which only the size is known here.
+#[derive(Clone, Copy)]
+pub struct NumericAttribute;
+
+pub impl EntryKind for NumericAttribute as NumericAttributeKind {
+    ghost reading = { λ _ i. entryOf (numeric i) };
+
+    ghost members = { λ _ i. SetOf (numeric i) };
+
+    fn read<S: Source>(&self, source: &S, at: u64, end: u64, _index: u64) -> Result<u64, FieldFault> {
+        let _key = u16_at(source, at, end)?;
+        let size = u32_at(source, at + 2, end)?;
+        bytes_at(source, at + 2 + 4, end, u64::from(size))
+    }
+}
+
+// What a user attribute says, and where its parts lie.
+#[derive(Clone, Copy)]
+pub(crate) struct UserFields {
+    pub namespace: u8,
+    pub type_at: u64,
+    pub value_type: ValueType,
+    pub behind: u64,
+}
+
+// The fields of a user attribute, each judged before the next.
+pub(crate) fn user_fields<S: Source>(source: &S, at: u64, end: u64) -> Result<UserFields, FieldFault>
+    ensures read { λ r. let B = S·Source .bytes (now (source .entry)) in ⌜ behindOf r ≡ entryOf (user 0) B at (limit B end) ⌝ }
+    ensures fits { λ r. let B = S·Source .bytes (now (source .entry)) in ⌜ made r (λ f. (f .behind ≡ valueAt B at + valueSize B at) × (f .behind ≤ end) × (f .behind ≤ length B)) ⌝ }
+    ensures parts { λ r. let B = S·Source .bytes (now (source .entry)) in ⌜ made r (λ f. (f .namespace ≡ le (part B at 1)) × (f .«type_at» ≡ typeAt B at) × (typeNumber (f .«value_type») ≡ le (part B (typeAt B at) 1))) ⌝ }
+{
+    let namespace = u8_at(source, at, end)?;
+    let type_at = text_at(source, at + 1, end)?;
+    let number = u8_at(source, type_at, end)?;
+    let Some(value_type) = ValueType::of(number) else {
+        return Err(not_allowed(type_at));
+    };
+    let size = u32_at(source, type_at + 1, end)?;
+    if !value_type.suits(u64::from(size)) {
+        return Err(not_allowed(type_at + 1));
+    }
+    let behind = bytes_at(source, type_at + 1 + 4, end, u64::from(size))?;
+    Ok(UserFields {
+        namespace,
+        type_at,
+        value_type,
+        behind,
+    })
+}
+
+fn not_allowed(place: u64) -> FieldFault
+    ensures { λ r. ⌜ r ≡ fault ValueNotAllowed place ⌝ }
+{
+    FieldFault {
+        cause: Cause::ValueNotAllowed,
+        place,
+    }
+}
+
+// A name for a key, and a value with its type.
+#[derive(Clone, Copy)]
+pub struct UserAttribute;
+
+pub impl EntryKind for UserAttribute as UserAttributeKind {
+    ghost reading = { λ _ i. entryOf (user i) };
+
+    ghost members = { λ _ i. SetOf (user i) };
+
+    fn read<S: Source>(&self, source: &S, at: u64, end: u64, _index: u64) -> Result<u64, FieldFault> {
+        let fields = user_fields(source, at, end)?;
+        Ok(fields.behind)
+    }
+}
+
+// The place behind properties, which are a list of numeric attributes.
+pub fn properties_at<S: Source>(source: &S, at: u64, end: u64) -> Result<u64, BlockFault>
+    ensures read { λ r. let B = S·Source .bytes (now (source .entry)) in ⌜ r ≡ readOf properties B at (limit B end) ⌝ }
+    ensures fits { λ r. let B = S·Source .bytes (now (source .entry)) in ⌜ made r (λ e. (e ≡ at + 4 + le (part B at 4)) × (e ≤ end) × (e ≤ length B)) ⌝ }
+{
+    list_at(source, &NumericAttribute, at, end)
+}
+
+// The place behind a user list, which is a list of user attributes.
+pub fn user_list_at<S: Source>(source: &S, at: u64, end: u64) -> Result<u64, BlockFault>
+    ensures read { λ r. let B = S·Source .bytes (now (source .entry)) in ⌜ r ≡ readOf userList B at (limit B end) ⌝ }
+    ensures fits { λ r. let B = S·Source .bytes (now (source .entry)) in ⌜ made r (λ e. (e ≡ at + 4 + le (part B at 4)) × (e ≤ end) × (e ≤ length B)) ⌝ }
+{
+    list_at(source, &UserAttribute, at, end)
+}

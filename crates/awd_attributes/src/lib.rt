@@ -1,0 +1,12 @@
+// Attributes: numbers under numbers and values under names, which most blocks carry, and their values.
+// This crate knows nothing of blocks or sessions.
+mod kinds;
+mod types;
+
+pub use kinds::NumericAttribute;
+pub use kinds::NumericAttributeKind;
+pub use kinds::UserAttribute;
+pub use kinds::UserAttributeKind;
+pub use kinds::properties_at;
+pub use kinds::user_list_at;
+pub use types::ValueType;
