@@ -1,0 +1,51 @@
+-- What an attribute reader answers, over a part of the caller's memory. Assumes nothing.
+use mathlib.Core.Path.{_≡_}
+use mathlib.Core.Bool.{cond}
+use mathlib.Core.List.{List}
+use Prim.Native.Nat.{ℕ, _+_}
+use lib.Dec.{leb}
+use lib.ListN.{length}
+use Rattle.std.specs.declared.option.Option.{Option}
+use Rattle.std.specs.declared.option.Option.the-variants.{Some, None}
+use Rattle.std.specs.declared.result.Result.{Result}
+use Rattle.std.specs.declared.result.Result.the-variants.{Ok, Err}
+use Rattle.awd_fault.specs.declared.Fault.{Fault}
+use Rattle.awd_fault.specs.Faults.{Report, report}
+use Rattle.awd_format.specs.declared.faults.FieldFault.{FieldFault}
+use Rattle.awd_format.specs.declared.faults.BlockFault.the-variants.{Entry}
+use Rattle.awd_format.specs.Faults.{inEntry, inBlock}
+use Rattle.awd_format.specs.Shapes.{entryOf}
+use Rattle.awd_attributes.specs.declared.attribute.Attribute.{Attribute}
+use Rattle.awd_attributes.specs.declared.reader.AttributeReader.{AttributeReader}
+use Rattle.awd_attributes.specs.Attribute.{Is}
+use Rattle.awd_attributes.specs.Attributes.{user}
+
+-- what a reader is to answer: that there are no more, a fault, or an attribute, with the place behind it
+pub data Answer : Type 0 where
+  ended : Answer
+  fault : Report → Answer
+  attribute : ℕ → Answer
+
+abbrev pub judged : ℕ → Result ℕ FieldFault → Answer
+judged i (Ok e) = attribute e
+judged i (Err x) = fault (inBlock 0 (Entry (inEntry i x)))
+
+-- at the end of its part none, else the user attribute there, of index i, or its fault; places count from the part's start
+abbrev pub answerAt : List ℕ → ℕ → ℕ → Answer
+answerAt B at i = cond (leb (length B) at) ended (judged i (entryOf (user i) B at (length B)))
+
+abbrev pub Faulted : Result (Option Attribute) Fault → Report → Type 0
+Faulted (Ok o) x = ⊥
+Faulted (Err f) x = report f ≡ x
+
+abbrev pub Given : Result (Option Attribute) Fault → (Attribute → Type 0) → Type 0
+Given (Ok (Some a)) P = P a
+Given (Ok None) P = ⊥
+Given (Err f) P = ⊥
+
+-- a reader gives an answer and is another reader then; only an attribute moves it
+abbrev pub Tells : AttributeReader → Result (Option Attribute) Fault → AttributeReader → Answer → Type 0
+Tells before r after ended = (r ≡ Ok None) × (after ≡ before)
+Tells before r after (fault x) = Faulted r x × (after ≡ before)
+Tells before r after (attribute e) =
+    Given r (Is (before .part .held) (before .at)) × (after .part ≡ before .part) × (after .at ≡ e) × (after .index ≡ before .index + 1)

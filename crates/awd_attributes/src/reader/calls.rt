@@ -1,0 +1,69 @@
+// What an attribute reader answers.
+ghost use denote.Ref.{now};
+ghost use mathlib.Core.Path.{_≡_};
+ghost use Rattle.awd_fault.specs.Faults.{report};
+ghost use Rattle.awd_format.specs.Faults.{inEntry, inBlock};
+ghost use Rattle.awd_format.specs.declared.faults.BlockFault.the-variants.{Entry};
+ghost use Rattle.awd_attributes.specs.Reader.{Tells, answerAt};
+use crate::attribute::Attribute;
+use crate::attribute::value_of;
+use crate::kinds::user_fields;
+use crate::reader::AttributeReader;
+use awd_fault::Fault;
+use awd_format::BlockFault;
+use awd_format::EntryFault;
+use awd_format::FieldFault;
+use awd_source::Run;
+use awd_source::RunSource;
+use awd_source::Source;
+
+impl<'a> AttributeReader<'a> {
+    pub fn new(part: &'a [u8]) -> AttributeReader<'a>
+        ensures { λ r. ⌜ (r .part .held ≡ part .entry) × (r .at ≡ 0) × (r .index ≡ 0) ⌝ }
+    {
+        AttributeReader {
+            part: Run::new(part),
+            at: 0,
+            index: 0,
+        }
+    }
+
+    // The next attribute, or none at the end. A fault has the layer of entries, block 0, the attribute's index in the part, and a place
+    // counted from the part's start; it does not move the reader.
+    pub fn next(&mut self) -> Result<Option<Attribute<'a>>, Fault>
+        ensures { λ r. let before = now (self .entry) in ⌜ Tells before r (now (self .exit)) (answerAt (now (before .part .held)) (before .at) (before .index)) ⌝ }
+    {
+        let part = self.part;
+        let end = part.length();
+        if self.at >= end {
+            return Ok(None);
+        }
+        let fields = match user_fields(&part, self.at, end) {
+            Ok(fields) => fields,
+            Err(field) => return Err(in_part(self.index, field)),
+        };
+        let key_at = self.at + 1 + 2;
+        let value_at = fields.type_at + 1 + 4;
+        // the whole attribute lies inside the part, and so do these
+        let Some(key) = part.part(key_at, fields.type_at - key_at) else {
+            unreachable()
+        };
+        let Some(value) = part.part(value_at, fields.behind - value_at) else {
+            unreachable()
+        };
+        self.at = fields.behind;
+        self.index += 1;
+        Ok(Some(Attribute {
+            namespace: fields.namespace,
+            key,
+            value_type: fields.value_type,
+            value: value_of(fields.value_type, value),
+        }))
+    }
+}
+
+fn in_part(index: u64, field: FieldFault) -> Fault
+    ensures { λ r. ⌜ report r ≡ inBlock 0 (Entry (inEntry index field)) ⌝ }
+{
+    BlockFault::Entry(EntryFault { index, field }).in_block(0)
+}
