@@ -4,3 +4,4 @@ pub mod Fields
 pub mod Behind
 pub mod Attribute
 pub mod Reader
+pub mod Values

@@ -21,9 +21,9 @@ use awd_format::FieldFromBlock;
 use awd_format::bytes_at;
 use awd_format::list_at;
 use awd_format::text_at;
+use awd_format::u8_at;
 use awd_format::u16_at;
 use awd_format::u32_at;
-use awd_format::u8_at;
 use awd_source::Source;
 
 // A number for a key, and a value of which only the size is known here.
@@ -35,7 +35,13 @@ pub impl EntryKind for NumericAttribute as NumericAttributeKind {
 
     ghost members = { λ _ i. SetOf (numeric i) };
 
-    fn read<S: Source>(&self, source: &S, at: u64, end: u64, _index: u64) -> Result<u64, FieldFault> {
+    fn read<S: Source>(
+        &self,
+        source: &S,
+        at: u64,
+        end: u64,
+        _index: u64,
+    ) -> Result<u64, FieldFault> {
         let _key = u16_at(source, at, end)?;
         let size = u32_at(source, at + 2, end)?;
         bytes_at(source, at + 2 + 4, end, u64::from(size))
@@ -52,7 +58,11 @@ pub(crate) struct UserFields {
 }
 
 // The fields of a user attribute, each judged before the next.
-pub(crate) fn user_fields<S: Source>(source: &S, at: u64, end: u64) -> Result<UserFields, FieldFault>
+pub(crate) fn user_fields<S: Source>(
+    source: &S,
+    at: u64,
+    end: u64,
+) -> Result<UserFields, FieldFault>
     ensures read { λ r. let B = S·Source .bytes (now (source .entry)) in ⌜ behindOf r ≡ entryOf (user 0) B at (limit B end) ⌝ }
     ensures fits { λ r. let B = S·Source .bytes (now (source .entry)) in ⌜ made r (λ f. (f .behind ≡ valueAt B at + valueSize B at) × (f .behind ≤ end) × (f .behind ≤ length B)) ⌝ }
     ensures parts { λ r. let B = S·Source .bytes (now (source .entry)) in ⌜ made r (λ f. (f .namespace ≡ le (part B at 1)) × (f .«type_at» ≡ typeAt B at) × (typeNumber (f .«value_type») ≡ le (part B (typeAt B at) 1))) ⌝ }
@@ -94,7 +104,13 @@ pub impl EntryKind for UserAttribute as UserAttributeKind {
 
     ghost members = { λ _ i. SetOf (user i) };
 
-    fn read<S: Source>(&self, source: &S, at: u64, end: u64, _index: u64) -> Result<u64, FieldFault> {
+    fn read<S: Source>(
+        &self,
+        source: &S,
+        at: u64,
+        end: u64,
+        _index: u64,
+    ) -> Result<u64, FieldFault> {
         let fields = user_fields(source, at, end)?;
         Ok(fields.behind)
     }

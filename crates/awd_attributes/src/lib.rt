@@ -4,6 +4,7 @@ mod attribute;
 mod kinds;
 mod reader;
 mod types;
+mod values;
 
 pub use attribute::Attribute;
 pub use attribute::Value;
@@ -15,3 +16,4 @@ pub use kinds::properties_at;
 pub use kinds::user_list_at;
 pub use reader::AttributeReader;
 pub use types::ValueType;
+pub use values::Number;

@@ -34,10 +34,10 @@ module _ (B : List ℕ) (at end : ℕ) where
       (m ++ t, omega (arith, is, length-append m t), (m, t, refl, p, q), stands-more B at end m t s st)
   reads-more P Q free m p s (Err x) none =
       λ bs w st.
-        let s′ : Stands B at end (w .0 ++ w .1) = subst (Stands B at end) (w .2) st in
-        let first = stands-first B at end (w .0) (w .1) s′ in
-        let same : w .0 ≡ m = stands-one P free B at end (w .0) m (w .3) p first s in
-        none (w .1) (subst (λ x. Q x (w .1)) same (w .4)) (subst (λ x. Stands B (at + length x) end (w .1)) same (stands-rest B at end (w .0) (w .1) s′))
+      let s′ : Stands B at end (w .0 ++ w .1) = subst (Stands B at end) (w .2) st in
+      let first = stands-first B at end (w .0) (w .1) s′ in
+      let same : w .0 ≡ m = stands-one P free B at end (w .0) m (w .3) p first s in
+      none (w .1) (subst (λ x. Q x (w .1)) same (w .4)) (subst (λ x. Stands B (at + length x) end (w .1)) same (stands-rest B at end (w .0) (w .1) s′))
 
   pub reads-then : {F G : Type 0} (turn : F → G) (P : List ℕ → Type 0) (Q : List ℕ → List ℕ → Type 0) → NoneBegins P
       → (r : Result ℕ F) (f : ℕ → Result ℕ G) → Reads P B at end r
@@ -60,20 +60,20 @@ module _ (read : Reading) (M : ℕ → List ℕ → Type 0) (k : KindLaw read M)
       let w = subst (Reads (M i) B at end) (sym is) (k .exact i B at end le h) in
       (more (w .0) (w .1) (w .2), omega (arith, w .1, w .3 .fits))
     where
-    more : (m : List ℕ) → e ≡ at + length m → M i m → at < e
-    more [] is p = absurd (k .nonempty i p)
-    more (b ∷ m) is p = omega arith
+      more : (m : List ℕ) → e ≡ at + length m → M i m → at < e
+      more [] is p = absurd (k .nonempty i p)
+      more (b ∷ m) is p = omega arith
 
   pub counted-reads : (n i at : ℕ) → at ≤ end → Reads (Counted M i n) B at end (countedAt read B end n i at)
   counted-reads zero i at le = ([], sym (add-zero at), counted-none M i, stands-none B at end le)
   counted-reads (suc n) i at le =
       reads-like B at end (Then (M i) (λ _. Counted M (i + 1) n)) (Counted M i (suc n))
-        (λ bs s w. counted-more M i n bs (w .0) (w .1) (w .2) (w .3) (w .4))
-        (λ bs s w. counted-first M i n bs w)
-        (countedAt read B end (suc n) i at)
-        (reads-then B at end (inEntry i) (M i) (λ _. Counted M (i + 1) n) (k .prefixFree i) (read i B at end)
-          (λ e. countedAt read B end n (i + 1) e) (k .exact i B at end le h)
-          (λ m p s. counted-reads n (i + 1) (at + length m) (s .fits)))
+      (λ bs s w. counted-more M i n bs (w .0) (w .1) (w .2) (w .3) (w .4))
+      (λ bs s w. counted-first M i n bs w)
+      (countedAt read B end (suc n) i at)
+      (reads-then B at end (inEntry i) (M i) (λ _. Counted M (i + 1) n) (k .prefixFree i) (read i B at end)
+      (λ e. countedAt read B end n (i + 1) e) (k .exact i B at end le h)
+      (λ m p s. counted-reads n (i + 1) (at + length m) (s .fits)))
 
   filling-end : (i at : ℕ) → at ≡ end → Reads {F = EntryFault} (Measured M i (end - at)) B at end (Ok at)
   filling-end i at is =
@@ -95,21 +95,21 @@ module _ (read : Reading) (M : ℕ → List ℕ → Type 0) (k : KindLaw read M)
   filling-reads zero i at le enough = filling-end i at (omega arith)
   filling-reads (suc turns) i at le enough =
       cond-both (eqb at end) (Ok at) (on (inEntry i) (read i B at end) (λ e. fillingAt read B end turns (i + 1) e)) (Reads (Measured M i (end - at)) B at end)
-        (λ is. filling-end i at (eqb-true at end is))
-        (λ isnt.
-          let ne = eqb-false at end isnt in
-          let lt : at < end = omega arith in
-          reads-like B at end (Then (M i) (λ m. Measured M (i + 1) (end - (at + length m)))) (Measured M i (end - at))
-            (λ bs s w. filling-to i at bs s w)
-            (λ bs s w. filling-fro i at bs lt w)
-            (on (inEntry i) (read i B at end) (λ e. fillingAt read B end turns (i + 1) e))
-            (reads-then B at end (inEntry i) (M i) (λ m. Measured M (i + 1) (end - (at + length m))) (k .prefixFree i) (read i B at end)
-              (λ e. fillingAt read B end turns (i + 1) e) (k .exact i B at end le h)
-              (λ m p s. filling-reads turns (i + 1) (at + length m) (s .fits) (shorter m p lt))))
+      (λ is. filling-end i at (eqb-true at end is))
+      (λ isnt.
+      let ne = eqb-false at end isnt in
+      let lt : at < end = omega arith in
+      reads-like B at end (Then (M i) (λ m. Measured M (i + 1) (end - (at + length m)))) (Measured M i (end - at))
+      (λ bs s w. filling-to i at bs s w)
+      (λ bs s w. filling-fro i at bs lt w)
+      (on (inEntry i) (read i B at end) (λ e. fillingAt read B end turns (i + 1) e))
+      (reads-then B at end (inEntry i) (M i) (λ m. Measured M (i + 1) (end - (at + length m))) (k .prefixFree i) (read i B at end)
+      (λ e. fillingAt read B end turns (i + 1) e) (k .exact i B at end le h)
+      (λ m p s. filling-reads turns (i + 1) (at + length m) (s .fits) (shorter m p lt))))
     where
-    shorter : (m : List ℕ) → M i m → at < end → end - (at + length m) ≤ turns
-    shorter [] p lt = absurd (k .nonempty i p)
-    shorter (b ∷ m) p lt = omega arith
+      shorter : (m : List ℕ) → M i m → at < end → end - (at + length m) ≤ turns
+      shorter [] p lt = absurd (k .nonempty i p)
+      shorter (b ∷ m) p lt = omega arith
 
   -- a fault is that of an entry j further on, all before it members
   abbrev Later : ℕ → ℕ → Result ℕ EntryFault → Type 0
@@ -122,11 +122,16 @@ module _ (read : Reading) (M : ℕ → List ℕ → Type 0) (k : KindLaw read M)
       (0, [], sym (add-zero i), counted-none M i, stands-none B at end le, ap (λ a. read i B a end) (add-zero at) ∙ is)
   later-on i at le (Ok e) is (m, e-is, p, s) f next = further (f e) (next e (omega (arith, e-is, s .fits)))
     where
-    further : (q : Result ℕ EntryFault) → Later (i + 1) e q → Later i at q
-    further (Ok a) u = tt
-    further (Err x) (j, t, ix, c, st, err) =
-        (suc j, m ++ t, omega (arith, ix), counted-more M i j (m ++ t) m t refl p c, stands-more B at end m t s (subst (λ a. Stands B a end t) e-is st),
-         ap (λ a. read (x .index) B a end) (omega (arith, e-is, length-append m t)) ∙ err)
+      further : (q : Result ℕ EntryFault) → Later (i + 1) e q → Later i at q
+      further (Ok a) u = tt
+      further (Err x) (j, t, ix, c, st, err) = (
+        suc j,
+        m ++ t,
+        omega (arith, ix),
+        counted-more M i j (m ++ t) m t refl p c,
+        stands-more B at end m t s (subst (λ a. Stands B a end t) e-is st),
+        ap (λ a. read (x .index) B a end) (omega (arith, e-is, length-append m t)) ∙ err,
+      )
 
   counted-later : (n i at : ℕ) → at ≤ end → Later i at (countedAt read B end n i at)
   counted-later zero i at le = tt
@@ -137,8 +142,8 @@ module _ (read : Reading) (M : ℕ → List ℕ → Type 0) (k : KindLaw read M)
   filling-later zero i at le = tt
   filling-later (suc turns) i at le =
       cond-both (eqb at end) (Ok at) (on (inEntry i) (read i B at end) (λ e. fillingAt read B end turns (i + 1) e)) (Later i at)
-        (λ _. tt)
-        (λ _. later-on i at le (read i B at end) refl (k .exact i B at end le h) (λ e. fillingAt read B end turns (i + 1) e) (λ e l. filling-later turns (i + 1) e l))
+      (λ _. tt)
+      (λ _. later-on i at le (read i B at end) refl (k .exact i B at end le h) (λ e. fillingAt read B end turns (i + 1) e) (λ e l. filling-later turns (i + 1) e l))
 
   first : (at : ℕ) (x : EntryFault) → Later 0 at (Err x) → FirstFault read M B at end x
   first at x (j, m, ix, c, s, err) = (m, subst (λ a. Counted M 0 a m) (sym (ix ∙ zero-add j)) c, s, err)
@@ -161,29 +166,29 @@ module _ (read : Reading) (M : ℕ → List ℕ → Type 0) (k : KindLaw read M)
   pub measured-reads : Reads (Measured M 0 size) B at end (measuredAt read B at end size)
   measured-reads =
       cond-both (leb (at + size) end) (Ok (at + size)) (Err (short at)) (λ r. Reads (Measured M 0 size) B at end (on Field r (λ stop. turned Entry (fillingAt read B stop size 0 at))))
-        (λ yes.
-          let fit = leb-true (at + size) end yes in
-          let n : at + size - at ≡ size = omega arith in
-          widen fit (fillingAt read B (at + size) size 0 at)
-            (subst (λ x. Reads (Measured M 0 x) B at (at + size) (fillingAt read B (at + size) size 0 at)) n
-               (filling-reads read M k B (at + size) (omega arith) size 0 at (omega arith) (omega arith))))
-        (λ no′ m p st. omega (arith, leb-false (at + size) end no′, st .fits, p .2))
+      (λ yes.
+      let fit = leb-true (at + size) end yes in
+      let n : at + size - at ≡ size = omega arith in
+      widen fit (fillingAt read B (at + size) size 0 at)
+      (subst (λ x. Reads (Measured M 0 x) B at (at + size) (fillingAt read B (at + size) size 0 at)) n
+      (filling-reads read M k B (at + size) (omega arith) size 0 at (omega arith) (omega arith))))
+      (λ no′ m p st. omega (arith, leb-false (at + size) end no′, st .fits, p .2))
     where
-    widen : at + size ≤ end → (r : Result ℕ EntryFault) → Reads (Measured M 0 size) B at (at + size) r → Reads (Measured M 0 size) B at end (turned Entry r)
-    widen fit (Ok x) (m, is, p, s) = (m, is, p, record { fits = omega (arith, s .fits); is = s .is })
-    widen fit (Err x) none = λ m p s. none m p (record { fits = omega (arith, p .2); is = s .is })
+      widen : at + size ≤ end → (r : Result ℕ EntryFault) → Reads (Measured M 0 size) B at (at + size) r → Reads (Measured M 0 size) B at end (turned Entry r)
+      widen fit (Ok x) (m, is, p, s) = (m, is, p, record { fits = omega (arith, s .fits); is = s .is })
+      widen fit (Err x) none = λ m p s. none m p (record { fits = omega (arith, p .2); is = s .is })
 
   measured-judged : MeasuredFault read M B at end size (measuredAt read B at end size)
   measured-judged =
       cond-both (leb (at + size) end) (Ok (at + size)) (Err (short at)) (λ r. MeasuredFault read M B at end size (on Field r (λ stop. turned Entry (fillingAt read B stop size 0 at))))
-        (λ yes.
-          let fit = leb-true (at + size) end yes in
-          turn fit (fillingAt read B (at + size) size 0 at) (filling-fault read M k B (at + size) (omega arith) size at (omega arith)))
-        (λ no′. (omega (arith, leb-false (at + size) end no′), refl))
+      (λ yes.
+      let fit = leb-true (at + size) end yes in
+      turn fit (fillingAt read B (at + size) size 0 at) (filling-fault read M k B (at + size) (omega arith) size at (omega arith)))
+      (λ no′. (omega (arith, leb-false (at + size) end no′), refl))
     where
-    turn : at + size ≤ end → (r : Result ℕ EntryFault) → CountedFault read M B at (at + size) r → MeasuredFault read M B at end size (turned Entry r)
-    turn fit (Ok e) w = tt
-    turn fit (Err x) w = (fit, w)
+      turn : at + size ≤ end → (r : Result ℕ EntryFault) → CountedFault read M B at (at + size) r → MeasuredFault read M B at end size (turned Entry r)
+      turn fit (Ok e) w = tt
+      turn fit (Err x) w = (fit, w)
 
   pub measured-exact : (r : Result ℕ BlockFault) → r ≡ measuredAt read B at end size → Reads (Measured M 0 size) B at end r
   measured-exact r is = subst (Reads (Measured M 0 size) B at end) (sym is) measured-reads

@@ -44,24 +44,24 @@ module _ (B : List ℕ) (at end : ℕ) (h : end ≤ length B) where
       → Reads (Then (Wide width) Q) B at end (on Field (numberAt B at end width) f)
   number-reads width Q f next =
       cond-both (leb (at + width) end) (Ok (le (part B at width))) (Err (short at)) (λ r. Reads (Then (Wide width) Q) B at end (on Field r f))
-        (λ yes.
-          let fit = leb-true (at + width) end yes in
-          let l : length (part B at width) ≡ width = length-part B at width (omega arith) in
-          let s = stands-part B at end width fit h in
-          reads-more B at end (Wide width) Q (free-wide width) (part B at width) l s (f (le (part B at width)))
-            (subst (λ n. Reads (Q (part B at width)) B (at + n) end (f (le (part B at width)))) (sym l) (next (part B at width) l s)))
-        (λ no′ bs v st.
-          let first = stands-first B at end (v .0) (v .1) (subst (Stands B at end) (v .2) st) in
-          omega (arith, leb-false (at + width) end no′, first .fits, v .3))
+      (λ yes.
+      let fit = leb-true (at + width) end yes in
+      let l : length (part B at width) ≡ width = length-part B at width (omega arith) in
+      let s = stands-part B at end width fit h in
+      reads-more B at end (Wide width) Q (free-wide width) (part B at width) l s (f (le (part B at width)))
+      (subst (λ n. Reads (Q (part B at width)) B (at + n) end (f (le (part B at width)))) (sym l) (next (part B at width) l s)))
+      (λ no′ bs v st.
+      let first = stands-first B at end (v .0) (v .1) (subst (Stands B at end) (v .2) st) in
+      omega (arith, leb-false (at + width) end no′, first .fits, v .3))
 
   bytes-reads : (n : ℕ) → Reads (Wide n) B at end (bytesAt at end n)
   bytes-reads n =
       cond-both (leb (at + n) end) (Ok (at + n)) (Err (short at)) (Reads (Wide n) B at end)
-        (λ yes.
-          let fit = leb-true (at + n) end yes in
-          let l : length (part B at n) ≡ n = length-part B at n (omega arith) in
-          (part B at n, ap (λ x. at + x) (sym l), l, stands-part B at end n fit h))
-        (λ no′ m p st. omega (arith, leb-false (at + n) end no′, st .fits, p))
+      (λ yes.
+      let fit = leb-true (at + n) end yes in
+      let l : length (part B at n) ≡ n = length-part B at n (omega arith) in
+      (part B at n, ap (λ x. at + x) (sym l), l, stands-part B at end n fit h))
+      (λ no′ m p st. omega (arith, leb-false (at + n) end no′, st .fits, p))
 
   sound-reads : (P : List ℕ → Type 0) → NoneBegins P → (flaw : List ℕ → Option FieldFault) (r : Result ℕ BlockFault) → Reads P B at end r
       → Reads (λ m. P m × (flaw m ≡ None)) B at end (on (λ x. x) r (λ e. tested at e (flaw (part B at (e - at)))))
@@ -71,12 +71,12 @@ module _ (B : List ℕ) (at end : ℕ) (h : end ≤ length B) where
       let same : part B at (e - at) ≡ m = ap (part B at) l ∙ s .is in
       subst (λ x. Reads (λ m. P m × (flaw m ≡ None)) B at end (tested at e (flaw x))) (sym same) (judged (flaw m) refl)
     where
-    judged : (o : Option FieldFault) → flaw m ≡ o → Reads (λ m. P m × (flaw m ≡ None)) B at end (tested at e o)
-    judged None eq = (m, is, (p, eq), s)
-    judged (Some x) eq = λ n q st.
-        let one = stands-one P free B at end n m (q .0) p st s in
-        let z : _≡_ {A = ℕ} 0 1 = cc (q .1, eq, ap flaw one) in
-        omega arith
+      judged : (o : Option FieldFault) → flaw m ≡ o → Reads (λ m. P m × (flaw m ≡ None)) B at end (tested at e o)
+      judged None eq = (m, is, (p, eq), s)
+      judged (Some x) eq = λ n q st.
+          let one = stands-one P free B at end n m (q .0) p st s in
+          let z : _≡_ {A = ℕ} 0 1 = cc (q .1, eq, ap flaw one) in
+          omega arith
 
 -- the law of entries that shapes describe
 kind-from : (entry : ℕ → Shape) → ((i : ℕ) → SetOf (entry i) [] → ⊥)
@@ -91,17 +91,17 @@ kind-from entry filled exact = record {
 pub shape-reads : (L : Shape) → Filled L → (B : List ℕ) (at end : ℕ) → at ≤ end → end ≤ length B → Reads (SetOf L) B at end (readOf L B at end)
 shape-reads (number width allowed cause next) filled B at end l h =
     number-reads B at end h width _ _ (λ digits len st.
-      given-reads B at end h (allowed (le digits)) (SetOf (next (le digits))) (Field (fault cause at)) (at + width) (readOf (next (le digits)) B (at + width) end)
-        (shape-reads (next (le digits)) (filled (le digits)) B (at + width) end (omega (arith, len, st .fits)) h))
+    given-reads B at end h (allowed (le digits)) (SetOf (next (le digits))) (Field (fault cause at)) (at + width) (readOf (next (le digits)) B (at + width) end)
+    (shape-reads (next (le digits)) (filled (le digits)) B (at + width) end (omega (arith, len, st .fits)) h))
 shape-reads (bytes n) filled B at end l h = reads-turned B at end Field (Wide n) (bytesAt at end n) (bytes-reads B at end h n)
 shape-reads (counted n entry) filled B at end l h =
     reads-turned B at end Entry (Counted (λ i. SetOf (entry i)) 0 n) (countedAt (λ i. entryOf (entry i)) B end n 0 at)
-      (counted-reads (λ i. entryOf (entry i)) (λ i. SetOf (entry i)) (kind-from entry (λ i. filled i .0) (λ i. shape-reads (entry i) (filled i .1))) B end h n 0 at l)
+    (counted-reads (λ i. entryOf (entry i)) (λ i. SetOf (entry i)) (kind-from entry (λ i. filled i .0) (λ i. shape-reads (entry i) (filled i .1))) B end h n 0 at l)
 shape-reads (measured n entry) filled B at end l h =
     measured-reads (λ i. entryOf (entry i)) (λ i. SetOf (entry i)) (kind-from entry (λ i. filled i .0) (λ i. shape-reads (entry i) (filled i .1))) B at end h n
 shape-reads (also a b) filled B at end l h =
     reads-then B at end (λ x. x) (SetOf a) (λ _. SetOf b) (shape-free a) (readOf a B at end) (λ e. readOf b B e end) (shape-reads a (filled .0) B at end l h)
-      (λ m p st. shape-reads b (filled .1) B (at + length m) end (st .fits) h)
+    (λ m p st. shape-reads b (filled .1) B (at + length m) end (st .fits) h)
 shape-reads (sound a flaw) filled B at end l h =
     sound-reads B at end h (SetOf a) (shape-free a) flaw (readOf a B at end) (shape-reads a filled B at end l h)
 

@@ -66,9 +66,9 @@ either-way a b = ⊎-elim (λ h. inl (omega arith)) inr (cases-lt a b)
 pub stands-one : (P : List ℕ → Type 0) → NoneBegins P → (B : List ℕ) (at end : ℕ) (m n : List ℕ) → P m → P n → Stands B at end m → Stands B at end n → m ≡ n
 stands-one P free B at end m n p q s u =
     ⊎-elim
-      (λ h. let b = stands-begins B at end m n s u h in sym (b .1 ∙ ap (λ x. m ++ x) (free m (b .0) p (subst P (b .1) q)) ∙ append-nil m))
-      (λ h. let b = stands-begins B at end n m u s h in b .1 ∙ ap (λ x. n ++ x) (free n (b .0) q (subst P (b .1) p)) ∙ append-nil n)
-      (either-way (length m) (length n))
+    (λ h. let b = stands-begins B at end m n s u h in sym (b .1 ∙ ap (λ x. m ++ x) (free m (b .0) p (subst P (b .1) q)) ∙ append-nil m))
+    (λ h. let b = stands-begins B at end n m u s h in b .1 ∙ ap (λ x. n ++ x) (free n (b .0) q (subst P (b .1) p)) ∙ append-nil n)
+    (either-way (length m) (length n))
 
 -- so of two ways in which a list begins with a member
 pub begins-one : (P : List ℕ → Type 0) → NoneBegins P → (m t n u : List ℕ) → P m → P n → m ++ t ≡ n ++ u → (m ≡ n) × (t ≡ u)

@@ -23,7 +23,7 @@ module _ (read : Reading) (B : List ℕ) (end : ℕ) where
   counted-step n i at h r is =
       let s : n - i ≡ suc (n - (i + 1)) = omega arith in
       ap (λ j. countedAt read B end j i at) s ∙ on-turned (inEntry i) (read i B at end) (λ e. countedAt read B end (n - (i + 1)) (i + 1) e)
-        ∙ ap (λ q. on (λ x. x) q (λ e. countedAt read B end (n - (i + 1)) (i + 1) e)) (sym is)
+      ∙ ap (λ q. on (λ x. x) q (λ e. countedAt read B end (n - (i + 1)) (i + 1) e)) (sym is)
 
   pub counted-ok : (n i at e : ℕ) → i < n → Ok e ≡ turned (inEntry i) (read i B at end) → countedAt read B end (n - (i + 1)) (i + 1) e ≡ countedAt read B end (n - i) i at
   counted-ok n i at e h is = sym (counted-step n i at h (Ok e) is)
@@ -41,7 +41,7 @@ module _ (read : Reading) (B : List ℕ) (end : ℕ) where
       let ne : eqb at end ≡ false = ne-eqb at end (λ is. omega arith) in
       let more = λ (e : ℕ). fillingAt read B end (turns - (i + 1)) (i + 1) e in
       ap (λ j. fillingAt read B end j i at) s ∙ ap (λ b. cond b (Ok at) (on (inEntry i) (read i B at end) more)) ne
-        ∙ on-turned (inEntry i) (read i B at end) more ∙ ap (λ q. on (λ x. x) q more) (sym is)
+      ∙ on-turned (inEntry i) (read i B at end) more ∙ ap (λ q. on (λ x. x) q more) (sym is)
 
   pub filling-ok : (turns i at e : ℕ) → at < end → i < turns → Ok e ≡ turned (inEntry i) (read i B at end) → fillingAt read B end (turns - (i + 1)) (i + 1) e ≡ fillingAt read B end (turns - i) i at
   filling-ok turns i at e lt h is = sym (filling-step turns i at lt h (Ok e) is)
@@ -60,4 +60,4 @@ measured-fits read B at end size stop r is fits e =
     let n : stop - at ≡ size = omega arith in
     let f : at + size ≤ end = omega arith in
     sym (ap (λ q. on Field q (λ s. turned Entry (fillingAt read B s size 0 at))) (cond-true (leb (at + size) end) (Ok (at + size)) (Err (short at)) (le-leb (at + size) end f))
-      ∙ ap (λ s. turned Entry (fillingAt read B s size 0 at)) (sym is) ∙ ap (λ t. turned Entry (fillingAt read B stop t 0 at)) (sym n) ∙ ap (turned Entry) (sym e))
+    ∙ ap (λ s. turned Entry (fillingAt read B s size 0 at)) (sym is) ∙ ap (λ t. turned Entry (fillingAt read B stop t 0 at)) (sym n) ∙ ap (turned Entry) (sym e))

@@ -55,7 +55,7 @@ tested at e (Some x) = Err (Field (fault (x .cause) (at + x .place)))
 abbrev pub readOf : Shape → List ℕ → ℕ → ℕ → Result ℕ BlockFault
 readOf (number width allowed cause next) B at end =
     on Field (numberAt B at end width)
-      (λ v. cond (allowed v) (readOf (next v) B (at + width) end) (Err (Field (fault cause at))))
+    (λ v. cond (allowed v) (readOf (next v) B (at + width) end) (Err (Field (fault cause at))))
 readOf (bytes n) B at end = turned Field (bytesAt at end n)
 readOf (counted n entry) B at end = turned Entry (countedAt (λ i C p q. turned fieldOf (readOf (entry i) C p q)) B end n 0 at)
 readOf (measured n entry) B at end = measuredAt (λ i C p q. turned fieldOf (readOf (entry i) C p q)) B at end n

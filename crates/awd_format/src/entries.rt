@@ -46,7 +46,13 @@ fn beside(index: u64, r: Result<u64, FieldFault>) -> Result<u64, (u64, FieldFaul
 }
 
 // One entry of a run; its fault has its index.
-fn entry_at<S: Source, K: EntryKind>(source: &S, kind: &K, at: u64, end: u64, index: u64) -> Result<u64, EntryFault>
+fn entry_at<S: Source, K: EntryKind>(
+    source: &S,
+    kind: &K,
+    at: u64,
+    end: u64,
+    index: u64,
+) -> Result<u64, EntryFault>
     ensures read { λ r. let B = S·Source .bytes (now (source .entry)) in let read = K·EntryKind .reading (now (kind .entry)) in ⌜ r ≡ turned (inEntry index) (read index B at (limit B end)) ⌝ }
     ensures fits { λ r. let B = S·Source .bytes (now (source .entry)) in ⌜ made r (λ e. (at < e) × (e ≤ end) × (e ≤ length B)) ⌝ }
 {
@@ -55,7 +61,13 @@ fn entry_at<S: Source, K: EntryKind>(source: &S, kind: &K, at: u64, end: u64, in
 }
 
 // So many entries, one after another.
-fn row<S: Source, K: EntryKind>(source: &S, kind: &K, at: u64, end: u64, count: u64) -> Result<u64, EntryFault>
+fn row<S: Source, K: EntryKind>(
+    source: &S,
+    kind: &K,
+    at: u64,
+    end: u64,
+    count: u64,
+) -> Result<u64, EntryFault>
     ensures { λ r. let B = S·Source .bytes (now (source .entry)) in let read = K·EntryKind .reading (now (kind .entry)) in ⌜ r ≡ countedAt read B (limit B end) count 0 at ⌝ }
 {
     let mut place = at;
@@ -66,7 +78,12 @@ fn row<S: Source, K: EntryKind>(source: &S, kind: &K, at: u64, end: u64, count: 
 }
 
 // Entries as far as their holder's end.
-fn filling<S: Source, K: EntryKind>(source: &S, kind: &K, at: u64, end: u64) -> Result<u64, EntryFault>
+fn filling<S: Source, K: EntryKind>(
+    source: &S,
+    kind: &K,
+    at: u64,
+    end: u64,
+) -> Result<u64, EntryFault>
     requires { ⌜ at ≤ end ⌝ ∗ ⌜ end ≤ length (S·Source .bytes (now source)) ⌝ }
     ensures read { λ r. let B = S·Source .bytes (now (source .entry)) in let read = K·EntryKind .reading (now (kind .entry)) in ⌜ r ≡ fillingAt read B end (end - at) 0 at ⌝ }
     ensures fits { λ r. ⌜ made r (λ e. e ≡ end) ⌝ }
@@ -81,7 +98,13 @@ fn filling<S: Source, K: EntryKind>(source: &S, kind: &K, at: u64, end: u64) -> 
 }
 
 // The place behind so many entries.
-pub fn counted<S: Source, K: EntryKind>(source: &S, kind: &K, at: u64, end: u64, count: u64) -> Result<u64, EntryFault>
+pub fn counted<S: Source, K: EntryKind>(
+    source: &S,
+    kind: &K,
+    at: u64,
+    end: u64,
+    count: u64,
+) -> Result<u64, EntryFault>
     ensures read { λ r. let B = S·Source .bytes (now (source .entry)) in let read = K·EntryKind .reading (now (kind .entry)) in ⌜ r ≡ countedAt read B (limit B end) count 0 at ⌝ }
     ensures exact { λ r. let B = S·Source .bytes (now (source .entry)) in let M = K·EntryKind .members (now (kind .entry)) in ⌜ (at ≤ limit B end → Reads (Counted M 0 count) B at (limit B end) r) ⌝ }
     ensures first { λ r. let B = S·Source .bytes (now (source .entry)) in let read = K·EntryKind .reading (now (kind .entry)) in let M = K·EntryKind .members (now (kind .entry)) in ⌜ (at ≤ limit B end → CountedFault read M B at (limit B end) r) ⌝ }
@@ -90,7 +113,13 @@ pub fn counted<S: Source, K: EntryKind>(source: &S, kind: &K, at: u64, end: u64,
 }
 
 // The place behind a run that fills so many bytes. The run must fit its holder; its entries must fit the run.
-pub fn measured<S: Source, K: EntryKind>(source: &S, kind: &K, at: u64, end: u64, size: u64) -> Result<u64, BlockFault>
+pub fn measured<S: Source, K: EntryKind>(
+    source: &S,
+    kind: &K,
+    at: u64,
+    end: u64,
+    size: u64,
+) -> Result<u64, BlockFault>
     ensures read { λ r. let B = S·Source .bytes (now (source .entry)) in let read = K·EntryKind .reading (now (kind .entry)) in ⌜ r ≡ measuredAt read B at (limit B end) size ⌝ }
     ensures fits { λ r. let B = S·Source .bytes (now (source .entry)) in ⌜ made r (λ e. (e ≡ at + size) × (e ≤ end) × (e ≤ length B)) ⌝ }
     ensures exact { λ r. let B = S·Source .bytes (now (source .entry)) in let M = K·EntryKind .members (now (kind .entry)) in ⌜ Reads (Measured M 0 size) B at (limit B end) r ⌝ }
@@ -102,7 +131,12 @@ pub fn measured<S: Source, K: EntryKind>(source: &S, kind: &K, at: u64, end: u64
 }
 
 // The place behind a list: its total in four bytes, and then entries that fill so many bytes.
-pub fn list_at<S: Source, K: EntryKind>(source: &S, kind: &K, at: u64, end: u64) -> Result<u64, BlockFault>
+pub fn list_at<S: Source, K: EntryKind>(
+    source: &S,
+    kind: &K,
+    at: u64,
+    end: u64,
+) -> Result<u64, BlockFault>
     ensures read { λ r. let B = S·Source .bytes (now (source .entry)) in let read = K·EntryKind .reading (now (kind .entry)) in ⌜ r ≡ listAt read B at (limit B end) ⌝ }
     ensures fits { λ r. let B = S·Source .bytes (now (source .entry)) in ⌜ made r (λ e. (e ≡ at + 4 + le (part B at 4)) × (e ≤ end) × (e ≤ length B)) ⌝ }
 {

@@ -37,7 +37,12 @@ pub struct NumberSize {
 }
 
 // A little-endian number: the lowest byte comes first.
-pub fn number_at<S: Source>(source: &S, at: u64, end: u64, size: NumberSize) -> Result<u64, FieldFault>
+pub fn number_at<S: Source>(
+    source: &S,
+    at: u64,
+    end: u64,
+    size: NumberSize,
+) -> Result<u64, FieldFault>
     ensures value { λ r. let B = S·Source .bytes (now (source .entry)) in ⌜ r ≡ numberAt B at (limit B end) (size .bytes) ⌝ }
     ensures fits { λ r. let B = S·Source .bytes (now (source .entry)) in ⌜ made r (λ v. (at + size .bytes ≤ end) × (at + size .bytes ≤ length B) × (v ≡ le (part B at (size .bytes))) × (v < 256 ^ size .bytes)) ⌝ }
 {

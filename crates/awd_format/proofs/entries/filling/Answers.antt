@@ -19,7 +19,7 @@ returns-in-Break-place g c =
     let x = c .in-Break-place .field-0 .0 in
     let is : Err x ≡ turned (inEntry i) (read i B (c .loop-place .place) end) = subst (λ e. Err x ≡ turned (inEntry i) (read i B (c .loop-place .place) e)) whole (c .in-Break-place .ensures tt .read) in
     rw (p .1, p .2)
-      (record { read = filling-err read B end (end - c .args .at) i (c .loop-place .place) x (c .loop-place-test .taken) (omega arith) is ∙ c .loop-place .inv .2; fits = tt })
+    (record { read = filling-err read B end (end - c .args .at) i (c .loop-place .place) x (c .loop-place-test .taken) (omega arith) is ∙ c .loop-place .inv .2; fits = tt })
 
 pub loop-place-again : need.loop-place-again
 loop-place-again g c =

@@ -8,7 +8,7 @@ Inv-loop-place g l =
     let read = g .K·EntryKind .reading (l .kind) in
     let B = g .S·Source .bytes (l .source) in
     (l .place ≤ l .end) × (l .at + l .index ≤ l .place)
-      × (fillingAt read B (l .end) (l .end - l .at - l .index) (l .index) (l .place) ≡ fillingAt read B (l .end) (l .end - l .at) 0 (l .at))
+    × (fillingAt read B (l .end) (l .end - l .at - l .index) (l .index) (l .place) ≡ fillingAt read B (l .end) (l .end - l .at) 0 (l .at))
 
 abbrev pub μ-loop-place : given.MeasureT-loop-place
 μ-loop-place g l = l .end - l .place

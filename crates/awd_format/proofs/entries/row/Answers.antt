@@ -10,7 +10,7 @@ returns-in-Break-place g c =
     let B = g .S·Source .bytes (c .args .source .now) in
     let p = err-from-errBy (c .from-residual .result) (c .from-residual .ensures .1) in
     rw (p .1, p .2)
-      (counted-err read B (limit B (c .args .end)) (c .args .count) (c .loop-index .index) (c .loop-index .place) (c .in-Break-place .field-0 .0) (c .loop-index-test .taken) (c .in-Break-place .ensures tt .read) ∙ c .loop-index .inv)
+    (counted-err read B (limit B (c .args .end)) (c .args .count) (c .loop-index .index) (c .loop-index .place) (c .in-Break-place .field-0 .0) (c .loop-index-test .taken) (c .in-Break-place .ensures tt .read) ∙ c .loop-index .inv)
 
 pub loop-index-again : need.loop-index-again
 loop-index-again g c =
