@@ -6,8 +6,8 @@ use native.Mathlib.Omega.{arith}
 use lib.ListN.{length}
 use Rattle.std.specs.declared.result.Result.{Result}
 use Rattle.std.proofs.shelf.Tests.{cond-false, lt-leb}
-use Rattle.awd_format.specs.declared.faults.FieldFault.{FieldFault}
-use Rattle.awd_format.specs.Fields.{limit}
+use Rattle.awd_block_fault.specs.declared.FieldFault.{FieldFault}
+use Rattle.awd_field.specs.Fields.{limit}
 use Rattle.awd_format.specs.Shapes.{entryOf}
 use Rattle.awd_attributes.specs.Attributes.{user}
 use Rattle.awd_attributes.specs.Reader.{judged, answerAt}

@@ -11,7 +11,7 @@ use Rattle.awd_attributes.specs.declared.attribute.Attribute.{Attribute}
 use Rattle.awd_attributes.specs.declared.attribute.Value.{Value}
 use Rattle.awd_attributes.specs.declared.attribute.Value.the-variants.{Text, Raw, Number}
 use Rattle.awd_attributes.specs.Fields.{keyAt, keySize, typeAt, valueAt, valueSize}
-use Rattle.awd_attributes.specs.Types.{typeNumber}
+use Rattle.awd_value.specs.Types.{typeNumber}
 
 -- the number of a value's case: text, raw bytes or a number's bytes
 abbrev pub caseNumber : Value → ℕ

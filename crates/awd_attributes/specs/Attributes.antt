@@ -2,7 +2,7 @@
 use Prim.Native.Nat.{ℕ}
 use Rattle.awd_fault.specs.declared.Cause.the-variants.{ValueNotAllowed}
 use Rattle.awd_format.specs.Shapes.{Shape, number, bytes, also, anyNumber, text, list}
-use Rattle.awd_attributes.specs.Types.{known, suits}
+use Rattle.awd_value.specs.Types.{known, suits}
 
 -- a numeric attribute: a key (2), a size (4) and that many bytes
 abbrev pub numeric : ℕ → Shape

@@ -2,7 +2,7 @@
 use Prim.Native.Nat.{ℕ}
 use Rattle.std.specs.declared.result.Result.{Result}
 use Rattle.std.specs.declared.result.Result.the-variants.{Ok, Err}
-use Rattle.awd_format.specs.declared.faults.FieldFault.{FieldFault}
+use Rattle.awd_block_fault.specs.declared.FieldFault.{FieldFault}
 use Rattle.awd_attributes.specs.declared.kinds.UserFields.{UserFields}
 
 abbrev pub behindOf : Result UserFields FieldFault → Result ℕ FieldFault

@@ -1,7 +1,5 @@
-pub mod Types
 pub mod Attributes
 pub mod Fields
 pub mod Behind
 pub mod Attribute
 pub mod Reader
-pub mod Values

@@ -11,9 +11,9 @@ use Rattle.std.specs.declared.result.Result.{Result}
 use Rattle.std.specs.declared.result.Result.the-variants.{Ok, Err}
 use Rattle.awd_fault.specs.declared.Fault.{Fault}
 use Rattle.awd_fault.specs.Faults.{Report, report}
-use Rattle.awd_format.specs.declared.faults.FieldFault.{FieldFault}
-use Rattle.awd_format.specs.declared.faults.BlockFault.the-variants.{Entry}
-use Rattle.awd_format.specs.Faults.{inEntry, inBlock}
+use Rattle.awd_block_fault.specs.declared.FieldFault.{FieldFault}
+use Rattle.awd_block_fault.specs.declared.BlockFault.the-variants.{Entry}
+use Rattle.awd_block_fault.specs.Faults.{inEntry, inBlock}
 use Rattle.awd_format.specs.Shapes.{entryOf}
 use Rattle.awd_attributes.specs.declared.attribute.Attribute.{Attribute}
 use Rattle.awd_attributes.specs.declared.reader.AttributeReader.{AttributeReader}

@@ -1,8 +1,8 @@
 // A user attribute as it is handed out: its key and its value are the very parts of the caller's memory.
 ghost use mathlib.Core.Path.{_≡_};
 ghost use Rattle.awd_attributes.specs.Attribute.{caseNumber, caseOf, valuePart};
-ghost use Rattle.awd_attributes.specs.Types.{typeNumber};
-use crate::types::ValueType;
+ghost use Rattle.awd_value.specs.Types.{typeNumber};
+use awd_value::ValueType;
 
 // A value: the bytes of a text, raw bytes, or those of a number.
 #[derive(Clone, Copy)]

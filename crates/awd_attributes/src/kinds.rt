@@ -4,27 +4,28 @@ ghost use Prim.Native.Nat.{_+_, _≤_};
 ghost use lib.ListN.{length};
 ghost use Rattle.std.specs.Vec.{made};
 ghost use Rattle.awd_source.specs.Bytes.{le, part};
-ghost use Rattle.awd_format.specs.Fields.{limit};
+ghost use Rattle.awd_field.specs.Fields.{limit};
 ghost use Rattle.awd_format.specs.Shapes.{SetOf, readOf, entryOf};
 ghost use Rattle.awd_fault.specs.declared.Cause.the-variants.{ValueNotAllowed};
-ghost use Rattle.awd_format.specs.Faults.{fault};
+ghost use Rattle.awd_block_fault.specs.Faults.{fault};
 ghost use Rattle.awd_attributes.specs.Fields.{typeAt, valueAt, valueSize};
 ghost use Rattle.awd_attributes.specs.Behind.{behindOf};
-ghost use Rattle.awd_attributes.specs.Types.{typeNumber};
+ghost use Rattle.awd_value.specs.Types.{typeNumber};
 ghost use Rattle.awd_attributes.specs.Attributes.{numeric, user, properties, userList};
-use crate::types::ValueType;
+use awd_block_fault::BlockFault;
+use awd_block_fault::FieldFault;
+use awd_block_fault::FieldFromBlock;
 use awd_fault::Cause;
-use awd_format::BlockFault;
+use awd_field::FOUR;
+use awd_field::ONE;
+use awd_field::TWO;
+use awd_field::bytes_at;
+use awd_field::number_at;
 use awd_format::EntryKind;
-use awd_format::FieldFault;
-use awd_format::FieldFromBlock;
-use awd_format::bytes_at;
 use awd_format::list_at;
 use awd_format::text_at;
-use awd_format::u8_at;
-use awd_format::u16_at;
-use awd_format::u32_at;
 use awd_source::Source;
+use awd_value::ValueType;
 
 // A number for a key, and a value of which only the size is known here.
 #[derive(Clone, Copy)]
@@ -42,9 +43,9 @@ pub impl EntryKind for NumericAttribute as NumericAttributeKind {
         end: u64,
         _index: u64,
     ) -> Result<u64, FieldFault> {
-        let _key = u16_at(source, at, end)?;
-        let size = u32_at(source, at + 2, end)?;
-        bytes_at(source, at + 2 + 4, end, u64::from(size))
+        let _key = number_at(source, at, end, TWO)?;
+        let size = number_at(source, at + 2, end, FOUR)?;
+        bytes_at(source, at + 2 + 4, end, size)
     }
 }
 
@@ -67,19 +68,19 @@ pub(crate) fn user_fields<S: Source>(
     ensures fits { λ r. let B = S·Source .bytes (now (source .entry)) in ⌜ made r (λ f. (f .behind ≡ valueAt B at + valueSize B at) × (f .behind ≤ end) × (f .behind ≤ length B)) ⌝ }
     ensures parts { λ r. let B = S·Source .bytes (now (source .entry)) in ⌜ made r (λ f. (f .namespace ≡ le (part B at 1)) × (f .«type_at» ≡ typeAt B at) × (typeNumber (f .«value_type») ≡ le (part B (typeAt B at) 1))) ⌝ }
 {
-    let namespace = u8_at(source, at, end)?;
+    let namespace = number_at(source, at, end, ONE)?;
     let type_at = text_at(source, at + 1, end)?;
-    let number = u8_at(source, type_at, end)?;
-    let Some(value_type) = ValueType::of(number) else {
+    let number = number_at(source, type_at, end, ONE)?;
+    let Some(value_type) = ValueType::of(number as u8) else {
         return Err(not_allowed(type_at));
     };
-    let size = u32_at(source, type_at + 1, end)?;
-    if !value_type.suits(u64::from(size)) {
+    let size = number_at(source, type_at + 1, end, FOUR)?;
+    if !value_type.suits(size) {
         return Err(not_allowed(type_at + 1));
     }
-    let behind = bytes_at(source, type_at + 1 + 4, end, u64::from(size))?;
+    let behind = bytes_at(source, type_at + 1 + 4, end, size)?;
     Ok(UserFields {
-        namespace,
+        namespace: namespace as u8,
         type_at,
         value_type,
         behind,

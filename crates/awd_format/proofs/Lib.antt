@@ -1,4 +1,3 @@
-pub mod Numbers
 pub mod Standing
 pub mod SetLaws
 pub mod RunLaws

@@ -15,11 +15,11 @@ use Rattle.std.proofs.shelf.Lists.{ext-getD, getD-take, getD-drop}
 use Rattle.std.proofs.shelf.Results.{made-weaker}
 use Rattle.std.proofs.shelf.Tests.{cond-both, leb-true}
 use Rattle.awd_source.specs.Bytes.{le, part}
-use Rattle.awd_format.specs.declared.faults.FieldFault.{FieldFault}
-use Rattle.awd_format.specs.declared.faults.BlockFault.{BlockFault}
-use Rattle.awd_format.specs.declared.faults.BlockFault.the-variants.{Field, Entry}
-use Rattle.awd_format.specs.Faults.{fault, short, inEntry, fieldOf, on, turned}
-use Rattle.awd_format.specs.Fields.{numberAt, bytesAt}
+use Rattle.awd_block_fault.specs.declared.FieldFault.{FieldFault}
+use Rattle.awd_block_fault.specs.declared.BlockFault.{BlockFault}
+use Rattle.awd_block_fault.specs.declared.BlockFault.the-variants.{Field, Entry}
+use Rattle.awd_block_fault.specs.Faults.{fault, short, inEntry, fieldOf, on, turned}
+use Rattle.awd_field.specs.Fields.{numberAt, bytesAt}
 use Rattle.awd_format.specs.Runs.{Reading, countedAt, fillingAt, measuredAt}
 use Rattle.awd_format.specs.Shapes.{Shape, number, bytes, counted, measured, also, sound, tested, readOf, entryOf}
 use Rattle.awd_format.proofs.Standing.{length-part}

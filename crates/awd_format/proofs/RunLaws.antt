@@ -10,13 +10,13 @@ use lib.Dec.{eqb, leb}
 use Rattle.std.specs.declared.result.Result.{Result}
 use Rattle.std.specs.declared.result.Result.the-variants.{Ok, Err}
 use Rattle.std.proofs.shelf.Tests.{cond-both, eqb-true, eqb-false, leb-true, leb-false}
-use Rattle.awd_format.specs.declared.faults.FieldFault.{FieldFault}
-use Rattle.awd_format.specs.declared.faults.EntryFault.{EntryFault}
-use Rattle.awd_format.specs.declared.faults.BlockFault.{BlockFault}
-use Rattle.awd_format.specs.declared.faults.BlockFault.the-variants.{Field, Entry}
+use Rattle.awd_block_fault.specs.declared.FieldFault.{FieldFault}
+use Rattle.awd_block_fault.specs.declared.EntryFault.{EntryFault}
+use Rattle.awd_block_fault.specs.declared.BlockFault.{BlockFault}
+use Rattle.awd_block_fault.specs.declared.BlockFault.the-variants.{Field, Entry}
 use Rattle.awd_source.specs.Bytes.{part}
-use Rattle.awd_format.specs.Faults.{inEntry, short, on, turned}
-use Rattle.awd_format.specs.Fields.{bytesAt}
+use Rattle.awd_block_fault.specs.Faults.{inEntry, short, on, turned}
+use Rattle.awd_field.specs.Fields.{bytesAt}
 use Rattle.awd_format.specs.Runs.{Reading, countedAt, fillingAt, measuredAt, KindLaw, FirstFault, CountedFault, MeasuredFault}
 use Rattle.awd_format.specs.Sets.{Stands, NoneBegins, Reads, Wide, Then, Counted, Measured}
 use Rattle.awd_format.proofs.Standing.{stands-none, stands-part, stands-more, stands-first, stands-rest, stands-one, length-part}

@@ -12,11 +12,11 @@ use Rattle.std.specs.declared.result.Result.{Result}
 use Rattle.std.specs.declared.result.Result.the-variants.{Ok, Err}
 use Rattle.std.proofs.shelf.Tests.{cond-both, both-ways, leb-true, leb-false}
 use Rattle.awd_source.specs.Bytes.{le, part}
-use Rattle.awd_format.specs.declared.faults.FieldFault.{FieldFault}
-use Rattle.awd_format.specs.declared.faults.BlockFault.{BlockFault}
-use Rattle.awd_format.specs.declared.faults.BlockFault.the-variants.{Field, Entry}
-use Rattle.awd_format.specs.Faults.{fault, short, fieldOf, on, turned}
-use Rattle.awd_format.specs.Fields.{numberAt, bytesAt}
+use Rattle.awd_block_fault.specs.declared.FieldFault.{FieldFault}
+use Rattle.awd_block_fault.specs.declared.BlockFault.{BlockFault}
+use Rattle.awd_block_fault.specs.declared.BlockFault.the-variants.{Field, Entry}
+use Rattle.awd_block_fault.specs.Faults.{fault, short, fieldOf, on, turned}
+use Rattle.awd_field.specs.Fields.{numberAt, bytesAt}
 use Rattle.awd_format.specs.Runs.{KindLaw, countedAt}
 use Rattle.awd_format.specs.Sets.{Stands, NoneBegins, Reads, Wide, Then, Counted}
 use Rattle.awd_format.specs.Shapes.{Shape, number, bytes, counted, measured, also, sound, Given, SetOf, tested, readOf, entryOf, Filled}

@@ -8,9 +8,9 @@ use lib.Dec.{eqb, leb}
 use Rattle.std.specs.declared.result.Result.{Result}
 use Rattle.std.specs.declared.result.Result.the-variants.{Ok, Err}
 use Rattle.std.proofs.shelf.Tests.{cond-true, ne-eqb, eq-eqb, le-leb}
-use Rattle.awd_format.specs.declared.faults.EntryFault.{EntryFault}
-use Rattle.awd_format.specs.declared.faults.BlockFault.the-variants.{Field, Entry}
-use Rattle.awd_format.specs.Faults.{inEntry, short, on, turned}
+use Rattle.awd_block_fault.specs.declared.EntryFault.{EntryFault}
+use Rattle.awd_block_fault.specs.declared.BlockFault.the-variants.{Field, Entry}
+use Rattle.awd_block_fault.specs.Faults.{inEntry, short, on, turned}
 use Rattle.awd_format.specs.Runs.{Reading, countedAt, fillingAt, measuredAt}
 
 on-turned : {F G : Type 0} (turn : F → G) (r : Result ℕ F) (f : ℕ → Result ℕ G) → on turn r f ≡ on (λ x. x) (turned turn r) f

@@ -1,5 +1,3 @@
-pub mod Faults
-pub mod Fields
 pub mod Sets
 pub mod Runs
 pub mod Shapes

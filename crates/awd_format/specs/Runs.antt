@@ -7,12 +7,12 @@ use lib.Dec.{eqb}
 use lib.ListN.{length}
 use Rattle.std.specs.declared.result.Result.{Result}
 use Rattle.std.specs.declared.result.Result.the-variants.{Ok, Err}
-use Rattle.awd_format.specs.declared.faults.FieldFault.{FieldFault}
-use Rattle.awd_format.specs.declared.faults.EntryFault.{EntryFault}
-use Rattle.awd_format.specs.declared.faults.BlockFault.{BlockFault}
-use Rattle.awd_format.specs.declared.faults.BlockFault.the-variants.{Header, Field, Entry}
-use Rattle.awd_format.specs.Faults.{inEntry, short, on, turned}
-use Rattle.awd_format.specs.Fields.{bytesAt, numberAt}
+use Rattle.awd_block_fault.specs.declared.FieldFault.{FieldFault}
+use Rattle.awd_block_fault.specs.declared.EntryFault.{EntryFault}
+use Rattle.awd_block_fault.specs.declared.BlockFault.{BlockFault}
+use Rattle.awd_block_fault.specs.declared.BlockFault.the-variants.{Header, Field, Entry}
+use Rattle.awd_block_fault.specs.Faults.{inEntry, short, on, turned}
+use Rattle.awd_field.specs.Fields.{bytesAt, numberAt}
 use Rattle.awd_format.specs.Sets.{Stands, Reads, NoneBegins, Counted}
 
 -- how the entry of an index is read in bytes, from a place, in a holder that ends at a place: the place behind it, or its fault

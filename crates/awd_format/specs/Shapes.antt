@@ -10,11 +10,11 @@ use Rattle.std.specs.declared.result.Result.the-variants.{Ok, Err}
 use Rattle.awd_fault.specs.declared.Cause.{Cause}
 use Rattle.awd_fault.specs.declared.Cause.the-variants.{ValueNotAllowed}
 use Rattle.awd_source.specs.Bytes.{le, part}
-use Rattle.awd_format.specs.declared.faults.FieldFault.{FieldFault}
-use Rattle.awd_format.specs.declared.faults.BlockFault.{BlockFault}
-use Rattle.awd_format.specs.declared.faults.BlockFault.the-variants.{Field, Entry}
-use Rattle.awd_format.specs.Faults.{fault, fieldOf, on, turned}
-use Rattle.awd_format.specs.Fields.{numberAt, bytesAt}
+use Rattle.awd_block_fault.specs.declared.FieldFault.{FieldFault}
+use Rattle.awd_block_fault.specs.declared.BlockFault.{BlockFault}
+use Rattle.awd_block_fault.specs.declared.BlockFault.the-variants.{Field, Entry}
+use Rattle.awd_block_fault.specs.Faults.{fault, fieldOf, on, turned}
+use Rattle.awd_field.specs.Fields.{numberAt, bytesAt}
 use Rattle.awd_format.specs.Runs.{countedAt, measuredAt}
 use Rattle.awd_format.specs.Sets.{Wide, Then, Counted, Measured}
 

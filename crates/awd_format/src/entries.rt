@@ -5,18 +5,19 @@ ghost use Prim.Native.Nat.{ℕ, _+_, _-_, _<_, _≤_};
 ghost use lib.ListN.{length};
 ghost use Rattle.std.specs.Vec.{made};
 ghost use Rattle.awd_source.specs.Bytes.{le, part};
-ghost use Rattle.awd_format.specs.Faults.{inEntry, turned};
-ghost use Rattle.awd_format.specs.Fields.{limit};
+ghost use Rattle.awd_block_fault.specs.Faults.{inEntry, turned};
+ghost use Rattle.awd_field.specs.Fields.{limit};
 ghost use Rattle.awd_format.specs.Runs.{Reading, KindLaw, countedAt, fillingAt, measuredAt, listAt, CountedFault, MeasuredFault};
 ghost use Rattle.awd_format.specs.Sets.{Reads, Counted, Measured};
-use crate::faults::BlockFault;
-use crate::faults::BlockFromEntry;
-use crate::faults::BlockFromField;
-use crate::faults::EntryFault;
-use crate::faults::EntryFromField;
-use crate::faults::FieldFault;
-use crate::fields::bytes_at;
-use crate::fields::u32_at;
+use awd_block_fault::BlockFault;
+use awd_block_fault::BlockFromEntry;
+use awd_block_fault::BlockFromField;
+use awd_block_fault::EntryFault;
+use awd_block_fault::EntryFromField;
+use awd_block_fault::FieldFault;
+use awd_field::FOUR;
+use awd_field::bytes_at;
+use awd_field::number_at;
 use awd_source::Source;
 
 // A kind of entry. It stands for a set of byte lists, which may depend on the entry's index in its run.
@@ -140,7 +141,7 @@ pub fn list_at<S: Source, K: EntryKind>(
     ensures read { λ r. let B = S·Source .bytes (now (source .entry)) in let read = K·EntryKind .reading (now (kind .entry)) in ⌜ r ≡ listAt read B at (limit B end) ⌝ }
     ensures fits { λ r. let B = S·Source .bytes (now (source .entry)) in ⌜ made r (λ e. (e ≡ at + 4 + le (part B at 4)) × (e ≤ end) × (e ≤ length B)) ⌝ }
 {
-    let total = u32_at(source, at, end)?;
-    let behind = measured(source, kind, at + 4, end, u64::from(total))?;
+    let total = number_at(source, at, end, FOUR)?;
+    let behind = measured(source, kind, at + 4, end, total)?;
     Ok(behind)
 }

@@ -1,5 +1,5 @@
 use native.Mathlib.Omega.{arith}
-use Rattle.awd_format.specs.Fields.{limit}
+use Rattle.awd_field.specs.Fields.{limit}
 use Rattle.awd_format.proofs.RunLaws.{counted-exact, counted-fault}
 use Rattle.awd_format.proofs.entries.counted.Needs as need
 

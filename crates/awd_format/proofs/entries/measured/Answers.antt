@@ -2,7 +2,7 @@ use borrow.Author.Needs.{needs}
 use native.Mathlib.Omega.{arith}
 use Rattle.std.proofs.shelf.Results.{err-from-errBy}
 use Rattle.std.specs.declared.result.Result.the-variants.{Ok, Err}
-use Rattle.awd_format.specs.Fields.{limit}
+use Rattle.awd_field.specs.Fields.{limit}
 use Rattle.awd_format.proofs.RunLaws.{measured-exact, measured-fault}
 use Rattle.awd_format.proofs.Steps.{measured-fits}
 use Rattle.awd_format.proofs.entries.measured.Needs as need

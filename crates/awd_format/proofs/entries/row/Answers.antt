@@ -1,6 +1,6 @@
 use mathlib.Core.Path.{_∙_}
 use Rattle.std.proofs.shelf.Results.{err-from-errBy}
-use Rattle.awd_format.specs.Fields.{limit}
+use Rattle.awd_field.specs.Fields.{limit}
 use Rattle.awd_format.proofs.Steps.{counted-ok, counted-err, counted-all}
 use Rattle.awd_format.proofs.entries.row.Needs as need
 

@@ -1,6 +1,6 @@
 use mathlib.Core.Path.{_≡_}
 use Prim.Native.Nat.{_-_}
-use Rattle.awd_format.specs.Fields.{limit}
+use Rattle.awd_field.specs.Fields.{limit}
 use Rattle.awd_format.specs.Runs.{countedAt}
 use Rattle.awd_format.proofs.entries.row.Given as given
 

@@ -5,9 +5,9 @@ use native.Mathlib.Omega.{arith}
 use lib.ListN.{length, getD}
 use Rattle.std.proofs.shelf.Ways.{tells}
 use Rattle.awd_source.specs.Bytes.{le, part}
-use Rattle.awd_format.specs.Fields.{limit}
-use Rattle.awd_format.proofs.Numbers.{turn, below-more, room, told}
-use Rattle.awd_format.proofs.fields.number_at.Needs as need
+use Rattle.awd_field.specs.Fields.{limit}
+use Rattle.awd_field.proofs.Numbers.{turn, below-more, room, told}
+use Rattle.awd_field.proofs.number_at.Needs as need
 
 pub mul-value : need.mul-value
 mul-value g c =

@@ -6,10 +6,10 @@ use Rattle.std.specs.declared.result.Result.the-variants.{Ok, Err}
 use Rattle.awd_fault.specs.declared.Cause.{Cause}
 use Rattle.awd_fault.specs.declared.Cause.the-variants.{DoesNotFit}
 use Rattle.awd_fault.specs.Faults.{Report, causeNumber}
-use Rattle.awd_format.specs.declared.faults.FieldFault.{FieldFault}
-use Rattle.awd_format.specs.declared.faults.EntryFault.{EntryFault}
-use Rattle.awd_format.specs.declared.faults.BlockFault.{BlockFault}
-use Rattle.awd_format.specs.declared.faults.BlockFault.the-variants.{Header, Field, Entry}
+use Rattle.awd_block_fault.specs.declared.FieldFault.{FieldFault}
+use Rattle.awd_block_fault.specs.declared.EntryFault.{EntryFault}
+use Rattle.awd_block_fault.specs.declared.BlockFault.{BlockFault}
+use Rattle.awd_block_fault.specs.declared.BlockFault.the-variants.{Header, Field, Entry}
 
 abbrev pub fault : Cause → ℕ → FieldFault
 fault cause place = record { cause = cause; place = place }

@@ -9,9 +9,9 @@ use lib.ListN.{length}
 use Rattle.std.specs.declared.option.Option.{Option}
 use Rattle.std.specs.declared.option.Option.the-variants.{Some, None}
 use Rattle.awd_source.specs.Bytes.{le}
-use Rattle.awd_attributes.specs.declared.values.Number.{Number}
-use Rattle.awd_attributes.specs.declared.values.Number.the-variants.{Signed, Unsigned, Single, Double, YesNo}
-use Rattle.awd_attributes.specs.Types.{fixedSize, fits}
+use Rattle.awd_value.specs.declared.values.Number.{Number}
+use Rattle.awd_value.specs.declared.values.Number.the-variants.{Signed, Unsigned, Single, Double, YesNo}
+use Rattle.awd_value.specs.Types.{fixedSize, fits}
 
 -- a value of any of the kinds that there are
 pub data Content : Type 0 where

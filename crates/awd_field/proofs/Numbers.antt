@@ -10,7 +10,7 @@ use Rattle.std.proofs.shelf.Lists.{at-drop-more}
 use Rattle.std.proofs.shelf.Tests.{cond-true, le-leb}
 use Rattle.std.specs.declared.result.Result.the-variants.{Ok}
 use Rattle.awd_source.specs.Bytes.{le, part}
-use Rattle.awd_format.specs.Fields.{numberAt}
+use Rattle.awd_field.specs.Fields.{numberAt}
 
 -- one byte more, before the others
 pub le-more : (B : List ℕ) (p k : ℕ) → p < length B → le (part B p (suc k)) ≡ getD B p 0 + 256 * le (part B (p + 1) k)

@@ -8,8 +8,8 @@ use Rattle.std.specs.declared.option.Option.the-variants.{Some, None}
 use Rattle.std.proofs.shelf.Lists.{take-all}
 use Rattle.std.proofs.shelf.Tests.{cond-true, eq-eqb}
 use Rattle.awd_source.specs.Bytes.{le, part}
-use Rattle.awd_attributes.specs.Types.{fixedSize, fits}
-use Rattle.awd_attributes.specs.Values.{valueIn, valueOf, sizeOr0}
+use Rattle.awd_value.specs.Types.{fixedSize, fits}
+use Rattle.awd_value.specs.Values.{valueIn, valueOf, sizeOr0}
 
 pub value-told : (t : ℕ) (bs : List ℕ) (size v : ℕ) → fixedSize t ≡ Some size → size ≡ length bs → v ≡ le (part bs 0 size)
     → Some (valueIn t (sizeOr0 (fixedSize t)) v) ≡ valueOf t bs

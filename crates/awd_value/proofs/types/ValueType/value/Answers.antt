@@ -3,9 +3,9 @@ use native.Mathlib.Omega.{arith}
 use denote.Ref.{now}
 use Rattle.std.specs.declared.option.Option.the-variants.{Some}
 use Rattle.awd_source.specs.Bytes.{le, part}
-use Rattle.awd_attributes.specs.Types.{typeNumber}
-use Rattle.awd_attributes.proofs.Spelled.{value-told}
-use Rattle.awd_attributes.proofs.types.ValueType.value.Needs as need
+use Rattle.awd_value.specs.Types.{typeNumber}
+use Rattle.awd_value.proofs.Spelled.{value-told}
+use Rattle.awd_value.proofs.types.ValueType.value.Needs as need
 
 pub returns : need.returns
 returns c =

@@ -4,8 +4,8 @@ use Prim.Native.Nat.{ℕ}
 use lib.Dec.{eqb}
 use Rattle.std.specs.declared.option.Option.{Option}
 use Rattle.std.specs.declared.option.Option.the-variants.{Some, None}
-use Rattle.awd_attributes.specs.declared.types.ValueType.{ValueType}
-use Rattle.awd_attributes.specs.declared.types.ValueType.the-variants as type
+use Rattle.awd_value.specs.declared.types.ValueType.{ValueType}
+use Rattle.awd_value.specs.declared.types.ValueType.the-variants as type
 
 abbrev pub typeNumber : ValueType → ℕ
 typeNumber type.Int8 = 1

@@ -1,10 +1,10 @@
 // What the bytes of a number say, by the type of the value.
 ghost use denote.Ref.{now};
 ghost use mathlib.Core.Path.{_≡_};
-ghost use Rattle.awd_attributes.specs.Types.{typeNumber, fixedSize};
-ghost use Rattle.awd_attributes.specs.Values.{told, toldOf, valueOf, valueIn, Within, sizeOr0};
+ghost use Rattle.awd_value.specs.Types.{typeNumber, fixedSize};
+ghost use Rattle.awd_value.specs.Values.{told, toldOf, valueOf, valueIn, Within, sizeOr0};
 use crate::types::ValueType;
-use awd_format::number_at;
+use awd_field::number_at;
 use awd_source::Run;
 use awd_source::RunSource;
 use std::num::f32_from_bits_with_nan;

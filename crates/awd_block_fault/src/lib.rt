@@ -1,8 +1,9 @@
 // Faults inside faults: a field's inside an entry's, both inside a block's, carried up by `?`.
+// This crate knows nothing of bytes, shapes or sessions.
 ghost use mathlib.Core.Path.{_≡_};
 ghost use Rattle.awd_fault.specs.Faults.{report};
-ghost use Rattle.awd_format.specs.Faults.{inEntry, fieldOf, inBlock};
-ghost use Rattle.awd_format.specs.declared.faults.BlockFault.the-variants.{Field, Entry};
+ghost use Rattle.awd_block_fault.specs.Faults.{inEntry, fieldOf, inBlock};
+ghost use Rattle.awd_block_fault.specs.declared.BlockFault.the-variants.{Field, Entry};
 use awd_fault::Cause;
 use awd_fault::CauseDebug;
 use awd_fault::CausePartialEq;

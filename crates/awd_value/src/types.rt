@@ -3,8 +3,8 @@ ghost use mathlib.Core.Path.{_≡_};
 ghost use mathlib.Core.Bool.{true, false};
 ghost use Rattle.std.specs.declared.option.Option.the-variants.{Some, None};
 ghost use Rattle.std.specs.Options.{Cases as BySome};
-ghost use Rattle.awd_attributes.specs.Types.{typeNumber, fixedSize, suits, known};
-use awd_format::NumberSize;
+ghost use Rattle.awd_value.specs.Types.{typeNumber, fixedSize, suits, known};
+use awd_field::NumberSize;
 
 // The numbers are part of the format.
 #[derive(Clone, Copy, PartialEq, Eq, Debug)]

@@ -1,7 +1,7 @@
 use mathlib.Core.Path.{_≡_}
 use Prim.Native.Nat.{_≤_, _<_, _-_, _^_}
 use Rattle.awd_source.specs.Bytes.{le, part}
-use Rattle.awd_format.proofs.fields.number_at.Given as given
+use Rattle.awd_field.proofs.number_at.Given as given
 
 abbrev pub Inv-loop-place : given.InvT-loop-place
 Inv-loop-place g l =
