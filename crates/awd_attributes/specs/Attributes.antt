@@ -8,11 +8,13 @@ use Rattle.awd_value.specs.Types.{known, suits}
 abbrev pub numeric : ℕ → Shape
 numeric i = anyNumber 2 (λ key. anyNumber 4 (λ size. bytes size))
 
--- a user attribute: a namespace (1), a key (text), a type (1), a size (4) that suits the type, and a value of that size
+-- a typed value: a type (1), a size (4) that suits the type, and that many bytes
+abbrev pub typed : Shape
+typed = number 1 known ValueNotAllowed (λ type. number 4 (suits type) ValueNotAllowed (λ size. bytes size))
+
+-- a user attribute: a namespace (1), a key (text) and a typed value
 abbrev pub user : ℕ → Shape
-user i =
-    anyNumber 1 (λ namespace. also text (
-    number 1 known ValueNotAllowed (λ type. number 4 (suits type) ValueNotAllowed (λ size. bytes size))))
+user i = anyNumber 1 (λ namespace. also text typed)
 
 -- properties: a list of numeric attributes
 abbrev pub properties : Shape

@@ -9,9 +9,9 @@ ghost use Rattle.awd_format.specs.Shapes.{SetOf, readOf, entryOf};
 ghost use Rattle.awd_fault.specs.declared.Cause.the-variants.{ValueNotAllowed};
 ghost use Rattle.awd_block_fault.specs.Faults.{fault};
 ghost use Rattle.awd_attributes.specs.Fields.{typeAt, valueAt, valueSize};
-ghost use Rattle.awd_attributes.specs.Behind.{behindOf};
+ghost use Rattle.awd_attributes.specs.Behind.{behindValue, behindFields};
 ghost use Rattle.awd_value.specs.Types.{typeNumber};
-ghost use Rattle.awd_attributes.specs.Attributes.{numeric, user, properties, userList};
+ghost use Rattle.awd_attributes.specs.Attributes.{numeric, typed, user, properties, userList};
 use awd_block_fault::BlockFault;
 use awd_block_fault::FieldFault;
 use awd_block_fault::FieldFromBlock;
@@ -49,41 +49,54 @@ pub impl EntryKind for NumericAttribute as NumericAttributeKind {
     }
 }
 
+// What a typed value says, and where it ends.
+#[derive(Clone, Copy)]
+pub(crate) struct TypedValue {
+    pub value_type: ValueType,
+    pub behind: u64,
+}
+
+// A typed value: its type, its size and its bytes, each judged before the next.
+fn typed_value<S: Source>(source: &S, at: u64, end: u64) -> Result<TypedValue, FieldFault>
+    ensures read { λ r. let B = S·Source .bytes (now (source .entry)) in ⌜ behindValue r ≡ entryOf typed B at (limit B end) ⌝ }
+    ensures parts { λ r. let B = S·Source .bytes (now (source .entry)) in ⌜ made r (λ v. (typeNumber (v .«value_type») ≡ le (part B at 1)) × (v .behind ≡ at + 1 + 4 + le (part B (at + 1) 4)) × (v .behind ≤ end) × (v .behind ≤ length B)) ⌝ }
+{
+    let number = number_at(source, at, end, ONE)?;
+    let Some(value_type) = ValueType::of(number as u8) else {
+        return Err(not_allowed(at));
+    };
+    let size = number_at(source, at + 1, end, FOUR)?;
+    if !value_type.suits(size) {
+        return Err(not_allowed(at + 1));
+    }
+    let behind = bytes_at(source, at + 1 + 4, end, size)?;
+    Ok(TypedValue { value_type, behind })
+}
+
 // What a user attribute says, and where its parts lie.
 #[derive(Clone, Copy)]
 pub(crate) struct UserFields {
     pub namespace: u8,
     pub type_at: u64,
-    pub value_type: ValueType,
-    pub behind: u64,
+    pub value: TypedValue,
 }
 
-// The fields of a user attribute, each judged before the next.
+// The fields of a user attribute.
 pub(crate) fn user_fields<S: Source>(
     source: &S,
     at: u64,
     end: u64,
 ) -> Result<UserFields, FieldFault>
-    ensures read { λ r. let B = S·Source .bytes (now (source .entry)) in ⌜ behindOf r ≡ entryOf (user 0) B at (limit B end) ⌝ }
-    ensures fits { λ r. let B = S·Source .bytes (now (source .entry)) in ⌜ made r (λ f. (f .behind ≡ valueAt B at + valueSize B at) × (f .behind ≤ end) × (f .behind ≤ length B)) ⌝ }
-    ensures parts { λ r. let B = S·Source .bytes (now (source .entry)) in ⌜ made r (λ f. (f .namespace ≡ le (part B at 1)) × (f .«type_at» ≡ typeAt B at) × (typeNumber (f .«value_type») ≡ le (part B (typeAt B at) 1))) ⌝ }
+    ensures read { λ r. let B = S·Source .bytes (now (source .entry)) in ⌜ behindFields r ≡ entryOf (user 0) B at (limit B end) ⌝ }
+    ensures parts { λ r. let B = S·Source .bytes (now (source .entry)) in ⌜ made r (λ f. (f .namespace ≡ le (part B at 1)) × (f .«type_at» ≡ typeAt B at) × (typeNumber (f .value .«value_type») ≡ le (part B (typeAt B at) 1)) × (f .value .behind ≡ valueAt B at + valueSize B at) × (f .value .behind ≤ end) × (f .value .behind ≤ length B)) ⌝ }
 {
     let namespace = number_at(source, at, end, ONE)?;
     let type_at = text_at(source, at + 1, end)?;
-    let number = number_at(source, type_at, end, ONE)?;
-    let Some(value_type) = ValueType::of(number as u8) else {
-        return Err(not_allowed(type_at));
-    };
-    let size = number_at(source, type_at + 1, end, FOUR)?;
-    if !value_type.suits(size) {
-        return Err(not_allowed(type_at + 1));
-    }
-    let behind = bytes_at(source, type_at + 1 + 4, end, size)?;
+    let value = typed_value(source, type_at, end)?;
     Ok(UserFields {
         namespace: namespace as u8,
         type_at,
-        value_type,
-        behind,
+        value,
     })
 }
 
@@ -113,7 +126,7 @@ pub impl EntryKind for UserAttribute as UserAttributeKind {
         _index: u64,
     ) -> Result<u64, FieldFault> {
         let fields = user_fields(source, at, end)?;
-        Ok(fields.behind)
+        Ok(fields.value.behind)
     }
 }
 

@@ -48,16 +48,16 @@ impl<'a> AttributeReader<'a> {
         let Some(key) = part.part(key_at, fields.type_at - key_at) else {
             unreachable()
         };
-        let Some(value) = part.part(value_at, fields.behind - value_at) else {
+        let Some(value) = part.part(value_at, fields.value.behind - value_at) else {
             unreachable()
         };
-        self.at = fields.behind;
+        self.at = fields.value.behind;
         self.index += 1;
         Ok(Some(Attribute {
             namespace: fields.namespace,
             key,
-            value_type: fields.value_type,
-            value: value_of(fields.value_type, value),
+            value_type: fields.value.value_type,
+            value: value_of(fields.value.value_type, value),
         }))
     }
 }

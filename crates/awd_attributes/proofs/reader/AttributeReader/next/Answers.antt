@@ -16,5 +16,5 @@ returns-in-Err c =
 pub returns : need.returns
 returns c =
     let w = now (c .args .self) in
-    let is = answered (now (w .part .held)) (w .at) (w .index) (c .length-end .result) (Ok (c .in-Ok .fields .behind)) (omega arith) (c .length-end .ensures) (c .in-Ok .ensures tt .read) in
+    let is = answered (now (w .part .held)) (w .at) (w .index) (c .length-end .result) (Ok (c .in-Ok .fields .value .behind)) (omega arith) (c .length-end .ensures) (c .in-Ok .ensures tt .read) in
     subst (Tells w _ _) is (search needs)
