@@ -2,7 +2,7 @@
 use mathlib.Core.Path.{_≡_}
 use mathlib.Core.Bool.{cond}
 use mathlib.Core.List.{List}
-use Prim.Native.Nat.{ℕ}
+use Prim.Native.Nat.{ℕ, _+_}
 use lib.Dec.{eqb}
 use denote.Ref.{RefT, now}
 use Rattle.std.specs.declared.option.Option.the-variants.{Some}
@@ -29,10 +29,11 @@ valuePart (Number b) = b
 abbrev pub caseOf : ℕ → ℕ
 caseOf t = cond (eqb t 31) 1 (cond (eqb t 32) 2 3)
 
--- an attribute is the one at a place of s: its numbers, and the very parts of s that its key and its value are
-pub record Is (s : RefT (List ℕ)) (at : ℕ) (a : Attribute) : Type 0 where
+-- an attribute is the one from a place of s to another: its numbers, and the very parts of s that its key and its value are
+pub record Is (s : RefT (List ℕ)) (at e : ℕ) (a : Attribute) : Type 0 where
   pub namespace : a .namespace ≡ le (part (now s) at 1)
   pub key : VeryPart s (keyAt at) (keySize (now s) at) (Some (a .key))
   pub type : typeNumber (a .«value_type») ≡ le (part (now s) (typeAt (now s) at) 1)
   pub case : caseNumber (a .value) ≡ caseOf (typeNumber (a .«value_type»))
   pub value : VeryPart s (valueAt (now s) at) (valueSize (now s) at) (Some (valuePart (a .value)))
+  pub ends : e ≡ valueAt (now s) at + valueSize (now s) at

@@ -48,4 +48,4 @@ abbrev pub Tells : AttributeReader → Result (Option Attribute) Fault → Attri
 Tells before r after ended = (r ≡ Ok None) × (after ≡ before)
 Tells before r after (fault x) = Faulted r x × (after ≡ before)
 Tells before r after (attribute e) =
-    Given r (Is (before .part .held) (before .at)) × (after .part ≡ before .part) × (after .at ≡ e) × (after .index ≡ before .index + 1)
+    Given r (Is (before .part .held) (before .at) e) × (after .part ≡ before .part) × (after .at ≡ e) × (after .index ≡ before .index + 1)

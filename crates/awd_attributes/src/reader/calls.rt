@@ -10,7 +10,9 @@ use crate::attribute::value_of;
 use crate::kinds::user_fields;
 use crate::reader::AttributeReader;
 use awd_block_fault::BlockFault;
+use awd_block_fault::BlockFromEntry;
 use awd_block_fault::EntryFault;
+use awd_block_fault::EntryFromField;
 use awd_block_fault::FieldFault;
 use awd_fault::Fault;
 use awd_source::Run;
@@ -65,5 +67,5 @@ impl<'a> AttributeReader<'a> {
 fn in_part(index: u64, field: FieldFault) -> Fault
     ensures { λ r. ⌜ report r ≡ inBlock 0 (Entry (inEntry index field)) ⌝ }
 {
-    BlockFault::Entry(EntryFault { index, field }).in_block(0)
+    BlockFault::from(EntryFault::from((index, field))).in_block(0)
 }
