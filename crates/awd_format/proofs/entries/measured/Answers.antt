@@ -18,7 +18,7 @@ returns-in-Break-behind g c =
     let fits = c .in-Continue-stop .ensures tt .fits in
     let x = c .in-Break-behind .field-0 .0 in
     let p = err-from-errBy (c .from-residual-in-Break-behind .result) (c .from-residual-in-Break-behind .ensures .1) in
-    let is = measured-fits read B at E (c .args .size) (c .in-Continue-stop .stop) (Err x) (fits .0) (omega arith) (c .in-Break-behind .ensures tt .read) in
+    let is = measured-fits read B at E (c .args .size) (c .in-Continue-stop .stop) (Err x) (omega arith) (omega arith) (c .in-Break-behind .ensures tt .read) in
     rw (p .1, p .2) (record {
       read = is;
       fits = tt;
@@ -36,7 +36,7 @@ returns g c =
     let E = limit B (c .args .end) in
     let fits = c .in-Continue-stop .ensures tt .fits in
     let e = c .in-Continue-behind .behind in
-    let is = measured-fits read B at E (c .args .size) (c .in-Continue-stop .stop) (Ok e) (fits .0) (omega arith) (c .in-Continue-behind .ensures tt .read) in
+    let is = measured-fits read B at E (c .args .size) (c .in-Continue-stop .stop) (Ok e) (omega arith) (omega arith) (c .in-Continue-behind .ensures tt .read) in
     record {
       read = is;
       fits = search needs;

@@ -1,5 +1,8 @@
-use mathlib.Core.Path.{_∙_}
+use borrow.Author.Needs.{needs}
+use mathlib.Core.Path.{_≡_}
 use Rattle.std.proofs.shelf.Results.{err-from-errBy}
+use Rattle.std.specs.declared.result.Result.the-variants.{Ok, Err}
+use Rattle.awd_block_fault.specs.Faults.{inEntry, turned}
 use Rattle.awd_field.specs.Fields.{limit}
 use Rattle.awd_format.proofs.Steps.{counted-ok, counted-err, counted-all}
 use Rattle.awd_format.proofs.entries.row.Needs as need
@@ -8,18 +11,30 @@ pub returns-in-Break-place : need.returns-in-Break-place
 returns-in-Break-place g c =
     let read = g .K·EntryKind .reading (c .args .kind .now) in
     let B = g .S·Source .bytes (c .args .source .now) in
+    let end = limit B (c .args .end) in
+    let i = c .loop-index .index in
+    let at = c .loop-index .place in
+    let x = c .in-Break-place .field-0 .0 in
+    let is : Err x ≡ turned (inEntry i) (read i B at end) = search needs in
+    let step = counted-err read B end (c .args .count) i at x (c .loop-index-test .taken) is in
     let p = err-from-errBy (c .from-residual .result) (c .from-residual .ensures .1) in
-    rw (p .1, p .2)
-    (counted-err read B (limit B (c .args .end)) (c .args .count) (c .loop-index .index) (c .loop-index .place) (c .in-Break-place .field-0 .0) (c .loop-index-test .taken) (c .in-Break-place .ensures tt .read) ∙ c .loop-index .inv)
+    rw (p .1, p .2) cc
 
 pub loop-index-again : need.loop-index-again
 loop-index-again g c =
     let read = g .K·EntryKind .reading (c .args .kind .now) in
     let B = g .S·Source .bytes (c .args .source .now) in
-    counted-ok read B (limit B (c .args .end)) (c .args .count) (c .loop-index .index) (c .loop-index .place) (c .in-Continue-place .place) (c .loop-index-test .taken) (c .in-Continue-place .ensures tt .read) ∙ c .loop-index .inv
+    let end = limit B (c .args .end) in
+    let i = c .loop-index .index in
+    let at = c .loop-index .place in
+    let e = c .in-Continue-place .place in
+    let is : Ok e ≡ turned (inEntry i) (read i B at end) = search needs in
+    let step = counted-ok read B end (c .args .count) i at e (c .loop-index-test .taken) is in
+    cc
 
 pub returns : need.returns
 returns g c =
     let read = g .K·EntryKind .reading (c .args .kind .now) in
     let B = g .S·Source .bytes (c .args .source .now) in
-    counted-all read B (limit B (c .args .end)) (c .args .count) (c .loop-index .index) (c .loop-index .place) (c .loop-index-test .left) ∙ c .loop-index .inv
+    let step = counted-all read B (limit B (c .args .end)) (c .args .count) (c .loop-index .index) (c .loop-index .place) (c .loop-index-test .left) in
+    cc
