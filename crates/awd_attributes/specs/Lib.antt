@@ -1,5 +1,5 @@
 pub mod Attributes
 pub mod Fields
-pub mod Behind
+pub mod Parts
 pub mod Attribute
 pub mod Reader

@@ -16,6 +16,7 @@ use Rattle.awd_block_fault.specs.declared.BlockFault.the-variants.{Entry}
 use Rattle.awd_block_fault.specs.Faults.{inEntry, inBlock}
 use Rattle.awd_format.specs.Shapes.{entryOf}
 use Rattle.awd_attributes.specs.declared.attribute.Attribute.{Attribute}
+use Rattle.awd_attributes.specs.declared.kinds.UserFields.{UserFields}
 use Rattle.awd_attributes.specs.declared.reader.AttributeReader.{AttributeReader}
 use Rattle.awd_attributes.specs.Attribute.{Is}
 use Rattle.awd_attributes.specs.Attributes.{user}
@@ -29,6 +30,12 @@ pub data Answer : Type 0 where
 abbrev pub judged : ℕ → Result ℕ FieldFault → Answer
 judged i (Ok e) = attribute e
 judged i (Err x) = fault (inBlock 0 (Entry (inEntry i x)))
+
+-- what fields, or none of them, say as an answer
+abbrev pub asAnswer : Result (Option UserFields) Fault → Answer
+asAnswer (Ok None) = ended
+asAnswer (Ok (Some f)) = attribute (f .value .behind)
+asAnswer (Err f) = fault (report f)
 
 -- at the end of its part none, else the user attribute there, of index i, or its fault; places count from the part's start
 abbrev pub answerAt : List ℕ → ℕ → ℕ → Answer

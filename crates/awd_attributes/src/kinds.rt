@@ -8,8 +8,7 @@ ghost use Rattle.awd_field.specs.Fields.{limit};
 ghost use Rattle.awd_format.specs.Shapes.{SetOf, readOf, entryOf};
 ghost use Rattle.awd_fault.specs.declared.Cause.the-variants.{ValueNotAllowed};
 ghost use Rattle.awd_block_fault.specs.Faults.{fault};
-ghost use Rattle.awd_attributes.specs.Fields.{typeAt, valueAt, valueSize};
-ghost use Rattle.awd_attributes.specs.Behind.{behindValue, behindFields};
+ghost use Rattle.awd_attributes.specs.Parts.{behindValue, behindFields, FieldsOf};
 ghost use Rattle.awd_value.specs.Types.{typeNumber};
 ghost use Rattle.awd_attributes.specs.Attributes.{numeric, typed, user, properties, userList};
 use awd_block_fault::BlockFault;
@@ -88,7 +87,7 @@ pub(crate) fn user_fields<S: Source>(
     end: u64,
 ) -> Result<UserFields, FieldFault>
     ensures read { λ r. let B = S·Source .bytes (now (source .entry)) in ⌜ behindFields r ≡ entryOf (user 0) B at (limit B end) ⌝ }
-    ensures parts { λ r. let B = S·Source .bytes (now (source .entry)) in ⌜ made r (λ f. (f .namespace ≡ le (part B at 1)) × (f .«type_at» ≡ typeAt B at) × (typeNumber (f .value .«value_type») ≡ le (part B (typeAt B at) 1)) × (f .value .behind ≡ valueAt B at + valueSize B at) × (f .value .behind ≤ end) × (f .value .behind ≤ length B)) ⌝ }
+    ensures parts { λ r. let B = S·Source .bytes (now (source .entry)) in ⌜ made r (λ f. FieldsOf B at f × (f .value .behind ≤ end) × (f .value .behind ≤ length B)) ⌝ }
 {
     let namespace = number_at(source, at, end, ONE)?;
     let type_at = text_at(source, at + 1, end)?;

@@ -4,9 +4,15 @@ ghost use mathlib.Core.Path.{_≡_};
 ghost use Rattle.awd_fault.specs.Faults.{report};
 ghost use Rattle.awd_block_fault.specs.Faults.{inEntry, inBlock};
 ghost use Rattle.awd_block_fault.specs.declared.BlockFault.the-variants.{Entry};
-ghost use Rattle.awd_attributes.specs.Reader.{Tells, answerAt};
+ghost use lib.ListN.{length};
+ghost use Prim.Native.Nat.{_≤_};
+ghost use Rattle.std.specs.Vec.{made};
+ghost use Rattle.std.specs.Options.{Cases as BySome};
+ghost use Rattle.awd_attributes.specs.Parts.{FieldsOf};
+ghost use Rattle.awd_attributes.specs.Reader.{Tells, answerAt, asAnswer};
 use crate::attribute::Attribute;
 use crate::attribute::value_of;
+use crate::kinds::UserFields;
 use crate::kinds::user_fields;
 use crate::reader::AttributeReader;
 use awd_block_fault::BlockFault;
@@ -36,13 +42,8 @@ impl<'a> AttributeReader<'a> {
         ensures { λ r. let before = now (self .entry) in ⌜ Tells before r (now (self .exit)) (answerAt (now (before .part .held)) (before .at) (before .index)) ⌝ }
     {
         let part = self.part;
-        let end = part.length();
-        if self.at >= end {
+        let Some(fields) = fields_in(&part, self.at, self.index)? else {
             return Ok(None);
-        }
-        let fields = match user_fields(&part, self.at, end) {
-            Ok(fields) => fields,
-            Err(field) => return Err(in_part(self.index, field)),
         };
         let key_at = self.at + 1 + 2;
         let value_at = fields.type_at + 1 + 4;
@@ -61,6 +62,21 @@ impl<'a> AttributeReader<'a> {
             value_type: fields.value.value_type,
             value: value_of(fields.value.value_type, value),
         }))
+    }
+}
+
+// The fields of the attribute at a place of a part, of an index there, or none at the end.
+fn fields_in(part: &Run, at: u64, index: u64) -> Result<Option<UserFields>, Fault>
+    ensures answer { λ r. ⌜ asAnswer r ≡ answerAt (now (now (part .entry) .held)) at index ⌝ }
+    ensures parts { λ r. let B = now (now (part .entry) .held) in ⌜ made r (λ o. BySome o (Unit {0}) (λ f. FieldsOf B at f × (f .value .behind ≤ length B))) ⌝ }
+{
+    let end = part.length();
+    if at >= end {
+        return Ok(None);
+    }
+    match user_fields(part, at, end) {
+        Ok(fields) => Ok(Some(fields)),
+        Err(field) => Err(in_part(index, field)),
     }
 }
 
