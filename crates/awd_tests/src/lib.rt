@@ -1,13 +1,6 @@
-// Examples of the whole library, as tables. Each expected value is worked out from the format's rules by hand, or by a reader in another
-// language where the table says so.
+// Examples of sources, headers and listings, as tables. Each expected value is worked out from the format's rules by hand.
 // A crate of its own, since a crate with tests is proved twice.
 
-#[cfg(test)]
-mod attributes;
-#[cfg(test)]
-mod damaged;
-#[cfg(test)]
-mod fields;
 #[cfg(test)]
 mod headers;
 #[cfg(test)]

@@ -8,44 +8,6 @@ use awd_value::Number;
 use awd_value::ValueType;
 use std::test::*;
 
-// Number and size of each type; a size of 0 stands for any.
-const TYPES: [(u8, u64); 13] = [
-    (1, 1),
-    (2, 2),
-    (3, 4),
-    (4, 1),
-    (5, 2),
-    (6, 4),
-    (7, 4),
-    (8, 8),
-    (21, 1),
-    (22, 4),
-    (23, 4),
-    (31, 0),
-    (32, 0),
-];
-
-#[test]
-fn types() -> Result<(), Fail> {
-    let mut known = 0;
-    for number in 0..=255 {
-        if let Some(value_type) = ValueType::of(number) {
-            check_eq(value_type.number(), number)?;
-            known += 1;
-        }
-    }
-    check_eq(known, 13)?;
-    for (number, size) in TYPES {
-        let Some(value_type) = ValueType::of(number) else {
-            return check(false).note(number);
-        };
-        for tried in 0..10 {
-            check_eq(value_type.suits(tried), size == 0 || tried == size).note(number)?;
-        }
-    }
-    Ok(())
-}
-
 // An attribute of each case: a number under "ab" in namespace 1, a text under no name, and raw bytes under "k" in namespace 2.
 const LIST: [u8; 34] = [
     1,
@@ -159,7 +121,7 @@ fn in_a_list() -> Result<(), Fail> {
     let Err(fault) = user_list_at(&Run::new(&memory), 2, 40) else {
         return check(false);
     };
-    // the text is a byte longer, so the third attribute begins a byte later: its key is "\x20\x03.." long
+    // the text takes a byte more, so the third attribute begins a byte later: its key's length is read as 0 + 256 × 107
     let whole = fault.in_block(7);
     check_eq(
         (whole.cause.number(), whole.place, whole.index),
