@@ -9,6 +9,7 @@ use Rattle.awd_fault.specs.Faults.{inHeader}
 use Rattle.awd_header.specs.Header.{opening}
 use Rattle.awd_header.specs.Widths.{Sizes, widthsOf}
 use Rattle.awd_listing.specs.Listing.{listingOf, newline}
+use Rattle.awd_examples.specs.Parts.{Parts}
 
 -- a header by its magic string, version, revision, flags (below 256), compression and body length (below 256)
 abbrev pub header : List ℕ → ℕ → ℕ → ℕ → ℕ → ℕ → List ℕ
@@ -50,3 +51,5 @@ pub record Examples : Type 0 where
   pub listed : listingOf (long 0 164) ≡ codes "AWD 2.1 flags 0 length 176" ++ newline
   pub listed-fault : listingOf (long 0 163) ≡ codes "fault 7 8 0" ++ newline
   pub listed-empty : listingOf [] ≡ codes "fault 2 0 0" ++ newline
+  -- and of parts of a document
+  pub parts : Parts
