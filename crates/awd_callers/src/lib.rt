@@ -5,6 +5,9 @@ ghost use mathlib.Core.Bool.{false};
 ghost use mathlib.Core.Path.{_≡_};
 ghost use Rattle.awd_fault.specs.Faults.{answer};
 ghost use Rattle.awd_header.specs.Header.{opening};
+
+mod sheets;
+
 use awd_fault::Fault;
 use awd_header::Header;
 use awd_session::Session;
@@ -12,6 +15,9 @@ use awd_session::SessionSource;
 use awd_source::RefSource;
 use awd_source::Run;
 use awd_source::Source;
+pub use sheets::Sheet;
+pub use sheets::SheetKind;
+pub use sheets::sheets_at;
 
 // The byte at place 1, read by way of a part of a run; then 7 is written there. While the part is in use the
 // memory cannot be written: one reads, or copies, first.

@@ -25,6 +25,10 @@ free-then P Q fp fq bs t (m, u, is, p, q) (n, v, is′, p′, q′) =
 pub filled-then : (n : ℕ) (Q : List ℕ → List ℕ → Type 0) → Then (Wide (suc n)) Q [] → ⊥
 filled-then n Q (m, t, is, p, q) = omega (arith, ap length is, length-append m t, p)
 
+-- nor is what begins with a member that is not
+pub filled-more : (P : List ℕ → Type 0) (Q : List ℕ → List ℕ → Type 0) → (P [] → ⊥) → Then P Q [] → ⊥
+filled-more P Q filled (m, t, is, p, q) = filled (subst P (nil-from-length m (omega (arith, ap length is, length-append m t))) p)
+
 module _ (M : ℕ → List ℕ → Type 0) where
   pub counted-none : (i : ℕ) → Counted M i 0 []
   counted-none i = ([], refl, refl, tt)

@@ -6,6 +6,7 @@ use awd_attributes::properties_at;
 use awd_attributes::user_list_at;
 use awd_block_fault::BlockFault;
 use awd_block_fault::FieldFault;
+use awd_callers::sheets_at;
 use awd_field::NumberSize;
 use awd_field::bytes_at;
 use awd_field::number_at;
@@ -205,5 +206,20 @@ fn total() -> Result<(), Fail> {
     check_eq(
         answer(properties_at(&Run::new(&memory), 0, 25)),
         Err((10, 4, None)),
+    )
+}
+
+// Two sheets of a caller's own kind, each the three properties and an empty user list. The second one's total is 20 in place of 21, so
+// its third attribute does not fit: that has index 2 in its list, and the fault the index of the sheet.
+#[test]
+fn outermost_index() -> Result<(), Fail> {
+    let mut memory: [u8; 58] = [0; 58];
+    memory[0..25].copy_from_slice(&PROPERTIES);
+    memory[29..54].copy_from_slice(&PROPERTIES);
+    check_eq(answer(sheets_at(&Run::new(&memory), 0, 58, 2)), Ok(58))?;
+    memory[29] = 20;
+    check_eq(
+        answer(sheets_at(&Run::new(&memory), 0, 58, 2)),
+        Err((10, 53, Some(1))),
     )
 }
