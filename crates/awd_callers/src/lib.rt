@@ -7,6 +7,7 @@ ghost use Rattle.awd_fault.specs.Faults.{answer};
 ghost use Rattle.awd_header.specs.Header.{opening};
 
 mod sheets;
+mod walks;
 
 use awd_fault::Fault;
 use awd_header::Header;
@@ -18,6 +19,7 @@ use awd_source::Source;
 pub use sheets::Sheet;
 pub use sheets::SheetKind;
 pub use sheets::sheets_at;
+pub use walks::count_attributes;
 
 // The byte at place 1, read by way of a part of a run; then 7 is written there. While the part is in use the
 // memory cannot be written: one reads, or copies, first.

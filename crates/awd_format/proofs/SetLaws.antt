@@ -3,8 +3,9 @@ use mathlib.Core.Path.{_≡_, refl, sym, _∙_, ap, subst}
 use mathlib.Core.List.{List, [], _∷_, _++_}
 use Prim.Native.Nat.{ℕ, zero, suc, _+_, _-_, _≤_, _<_}
 use native.Mathlib.Omega.{arith}
+use native.Mathlib.Nat.{add-zero}
 use lib.ListN.{length, length-append}
-use Rattle.std.proofs.shelf.Lists.{nil-from-length, append-assoc}
+use Rattle.std.proofs.shelf.Lists.{nil-from-length, append-assoc, append-nil}
 use Rattle.awd_format.specs.Sets.{NoneBegins, Wide, Then, Members, inRow, Counted, Measured}
 use Rattle.awd_format.proofs.Standing.{begins-one}
 
@@ -50,6 +51,22 @@ module _ (M : ℕ → List ℕ → Type 0) where
       nil-from-length t (omega (arith, ap length (counted-nil i m p), ap length (counted-nil i (m ++ t) q), length-append m t))
   counted-free free (suc n) i m t p q =
       free-then (M i) (λ _. Counted M (i + 1) n) (free i) (λ _ _. counted-free free n (i + 1)) m t (counted-first i n m p) (counted-first i n (m ++ t) q)
+
+  -- one entry more, behind the others
+  members-push : (j : ℕ) (ms : List (List ℕ)) (m : List ℕ) → Members M j ms → M (j + length ms) m → Members M j (ms ++ m ∷ [])
+  members-push j [] m p q = (subst (λ i. M i m) (add-zero j) q, tt)
+  members-push j (n ∷ ms) m p q =
+      let i : j + suc (length ms) ≡ j + 1 + length ms = omega arith in
+      (p .0, members-push (j + 1) ms m (p .1) (subst (λ k. M k m) i q))
+
+  row-push : (ms : List (List ℕ)) (m : List ℕ) → inRow (ms ++ m ∷ []) ≡ inRow ms ++ m
+  row-push [] m = append-nil m
+  row-push (n ∷ ms) m = ap (λ x. n ++ x) (row-push ms m) ∙ sym (append-assoc n (inRow ms) m)
+
+  pub counted-push : (n : ℕ) (bs m : List ℕ) → Counted M 0 n bs → M n m → Counted M 0 (n + 1) (bs ++ m)
+  counted-push n bs m (ms, row, len, rest) p =
+      let i : n ≡ 0 + length ms = omega arith in
+      (ms ++ m ∷ [], ap (λ x. x ++ m) row ∙ sym (row-push ms m), omega (arith, length-append ms (m ∷ [])), members-push 0 ms m rest (subst (λ k. M k m) i p))
 
   pub measured-none : (i : ℕ) → Measured M i 0 []
   measured-none i = ([], refl, refl, tt)
