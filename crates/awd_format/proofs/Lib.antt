@@ -4,3 +4,4 @@ pub mod RunLaws
 pub mod ShapeLaws
 pub mod Locality
 pub mod Steps
+pub mod FaultPlaces

@@ -28,7 +28,7 @@ use Rattle.awd_format.proofs.Standing.{length-part}
 abbrev pub Ahead : {F : Type 0} → ℕ → ℕ → Result ℕ F → Type 0
 Ahead at end r = made r (λ e. (at ≤ e) × (e ≤ end))
 
-ahead-turned : {F G : Type 0} (turn : F → G) (at end : ℕ) (r : Result ℕ F) → Ahead at end r → Ahead at end (turned turn r)
+pub ahead-turned : {F G : Type 0} (turn : F → G) (at end : ℕ) (r : Result ℕ F) → Ahead at end r → Ahead at end (turned turn r)
 ahead-turned turn at end (Ok e) w = w
 ahead-turned turn at end (Err x) w = tt
 

@@ -2,7 +2,8 @@
 use mathlib.Core.Path.{_≡_}
 use mathlib.Core.List.{List, []}
 use mathlib.Core.Bool.{Bool, cond, true}
-use Prim.Native.Nat.{ℕ, _+_, _-_}
+use Prim.Native.Nat.{ℕ, _+_, _-_, _≤_}
+use lib.ListN.{length}
 use Rattle.std.specs.declared.option.Option.{Option}
 use Rattle.std.specs.declared.option.Option.the-variants.{Some, None}
 use Rattle.std.specs.declared.result.Result.{Result}
@@ -74,6 +75,15 @@ Filled (counted n entry) = (i : ℕ) → (SetOf (entry i) [] → ⊥) × Filled 
 Filled (measured n entry) = (i : ℕ) → (SetOf (entry i) [] → ⊥) × Filled (entry i)
 Filled (also a b) = Filled a × Filled b
 Filled (sound a flaw) = Filled a
+
+-- what its tests find lies inside the bytes tested
+abbrev pub TestsInside : Shape → Type 0
+TestsInside (number width allowed cause next) = (v : ℕ) → TestsInside (next v)
+TestsInside (bytes n) = Unit {0}
+TestsInside (counted n entry) = (i : ℕ) → TestsInside (entry i)
+TestsInside (measured n entry) = (i : ℕ) → TestsInside (entry i)
+TestsInside (also a b) = TestsInside a × TestsInside b
+TestsInside (sound a flaw) = TestsInside a × ((m : List ℕ) (x : FieldFault) → flaw m ≡ Some x → x .place ≤ length m)
 
 abbrev pub any : ℕ → Bool
 any v = true
