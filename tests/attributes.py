@@ -10,8 +10,9 @@ Usage: tests/attributes.py target/bin/awdattr
 
 import random
 import struct
-import subprocess
 import sys
+
+from agreement import compare
 
 # the sizes that a value of a type may have; None is any
 SIZES = {1: 1, 2: 2, 3: 4, 4: 1, 5: 2, 6: 4, 7: 4, 8: 8, 21: 1, 22: 4, 23: 4, 31: None, 32: None}
@@ -120,18 +121,5 @@ def inputs(rng):
         yield bytes(data[: rng.choice((len(data), rng.randrange(len(data) + 1)))])
 
 
-def main(program):
-    count = 0
-    for data in inputs(random.Random(3)):
-        run = subprocess.run([program], input=data, capture_output=True)
-        written = run.stdout.decode("ascii", "replace")
-        if run.returncode != 0 or run.stderr or written != listing(data):
-            print(f"input {data.hex()}: wrote {written!r}, expected {listing(data)!r}")
-            return 1
-        count += 1
-    print(f"awdattr and the reader in Python agree on {count} inputs")
-    return 0
-
-
 if __name__ == "__main__":
-    sys.exit(main(sys.argv[1]))
+    sys.exit(compare(sys.argv[1], "awdattr", inputs(random.Random(3)), listing))

@@ -10,8 +10,9 @@ Usage: tests/compare.py target/bin/awdlist
 
 import random
 import struct
-import subprocess
 import sys
+
+from agreement import compare
 
 LIMIT = 65_536
 
@@ -62,18 +63,5 @@ def inputs():
         yield bytes(data[: rng.choice((len(data), rng.randrange(len(data) + 1)))])
 
 
-def main(program):
-    count = 0
-    for data in inputs():
-        run = subprocess.run([program], input=data, capture_output=True)
-        written = run.stdout.decode("ascii", "replace")
-        if run.returncode != 0 or run.stderr or written != listing(data):
-            print(f"input {data[:16].hex()} of {len(data)} bytes: wrote {written!r}, expected {listing(data)!r}")
-            return 1
-        count += 1
-    print(f"awdlist and the reader in Python agree on {count} inputs")
-    return 0
-
-
 if __name__ == "__main__":
-    sys.exit(main(sys.argv[1]))
+    sys.exit(compare(sys.argv[1], "awdlist", inputs(), listing))

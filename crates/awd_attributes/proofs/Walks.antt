@@ -28,39 +28,39 @@ use Rattle.awd_format.proofs.Standing.{stands-none, stands-more}
 use Rattle.awd_attributes.specs.declared.attribute.Attribute.{Attribute}
 use Rattle.awd_attributes.specs.declared.reader.AttributeReader.{AttributeReader}
 use Rattle.awd_attributes.specs.Attributes.{user}
-use Rattle.awd_attributes.specs.Reader.{Answer, ended, fault, attribute, judged, answerAt, Tells}
+use Rattle.awd_attributes.specs.Reader.{Answer, ended, refusal, attribute, judged, answerAt, Tells}
 use Rattle.awd_attributes.proofs.Filled.{user-filled}
 
 -- the case of an answer, and its place
 abbrev caseOf : Answer → ℕ
 caseOf ended = 0
-caseOf (fault x) = 1
+caseOf (refusal x) = 1
 caseOf (attribute e) = 2
 
 abbrev placeOf : Answer → ℕ
 placeOf ended = 0
-placeOf (fault x) = 0
+placeOf (refusal x) = 0
 placeOf (attribute e) = e
 
 abbrev reportOf : Report → Answer → Report
 reportOf x ended = x
-reportOf x (fault y) = y
+reportOf x (refusal y) = y
 reportOf x (attribute e) = x
 
 module _ (w w′ : AttributeReader) where
   pub gave : (a : Attribute) (ans : Answer) → Tells w (Ok (Some a)) w′ ans → (e : ℕ) × (ans ≡ attribute e) × (w′ .part ≡ w .part) × (w′ .at ≡ e) × (w′ .index ≡ w .index + 1)
   gave a ended (p, q) = absurd (grind arith)
-  gave a (fault x) (p, q) = absurd p
+  gave a (refusal x) (p, q) = absurd p
   gave a (attribute e) (p, q, r, s) = (e, refl, q, r, s)
 
   pub gave-none : (ans : Answer) → Tells w (Ok None) w′ ans → ans ≡ ended
   gave-none ended t = refl
-  gave-none (fault x) (p, q) = absurd p
+  gave-none (refusal x) (p, q) = absurd p
   gave-none (attribute e) t = absurd (t .0)
 
-  pub refused : (f : Fault) (ans : Answer) → Tells w (Err f) w′ ans → ans ≡ fault (report f)
+  pub refused : (f : Fault) (ans : Answer) → Tells w (Err f) w′ ans → ans ≡ refusal (report f)
   refused f ended (p, q) = absurd (grind arith)
-  refused f (fault x) (p, q) = ap fault (sym p)
+  refused f (refusal x) (p, q) = ap refusal (sym p)
   refused f (attribute e) t = absurd (t .0)
 
 module _ (i : ℕ) where
@@ -74,7 +74,7 @@ module _ (i : ℕ) where
   ended-is false (Ok p) is = absurd (omega (arith, ap caseOf is))
   ended-is false (Err x) is = absurd (omega (arith, ap caseOf is))
 
-  fault-is : (b : Bool) (r : Result ℕ FieldFault) (x : Report) → cond b ended (judged i r) ≡ fault x → (y : FieldFault) × (r ≡ Err y) × (x ≡ inBlock 0 (Entry (inEntry i y)))
+  fault-is : (b : Bool) (r : Result ℕ FieldFault) (x : Report) → cond b ended (judged i r) ≡ refusal x → (y : FieldFault) × (r ≡ Err y) × (x ≡ inBlock 0 (Entry (inEntry i y)))
   fault-is true r x is = absurd (omega (arith, ap caseOf is))
   fault-is false (Ok p) x is = absurd (omega (arith, ap caseOf is))
   fault-is false (Err y) x is = (y, refl, sym (ap (reportOf x) is))
@@ -107,7 +107,7 @@ module _ (B : List ℕ) where
       let l : length m ≡ length B = omega (arith, s .fits) in
       subst (Counted (λ i. SetOf (user i)) 0 i) (sym (s .is) ∙ ap (part B 0) l ∙ take-length B) c
 
-  pub walked-fault : (at i : ℕ) (x : Report) → Walked at i → answerAt B at i ≡ fault x
+  pub walked-fault : (at i : ℕ) (x : Report) → Walked at i → answerAt B at i ≡ refusal x
       → (y : EntryFault) × (x ≡ inBlock 0 (Entry y)) × FirstFault (λ i. entryOf (user i)) (λ i. SetOf (user i)) B 0 (length B) y
   walked-fault at i x (m, c, s, is) ans =
       let w = fault-is i (leb (length B) at) (entryOf (user i) B at (length B)) x ans in

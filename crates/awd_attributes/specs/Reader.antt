@@ -24,18 +24,18 @@ use Rattle.awd_attributes.specs.Attributes.{user}
 -- what a reader is to answer: that there are no more, a fault, or an attribute, with the place behind it
 pub data Answer : Type 0 where
   ended : Answer
-  fault : Report → Answer
+  refusal : Report → Answer
   attribute : ℕ → Answer
 
 abbrev pub judged : ℕ → Result ℕ FieldFault → Answer
 judged i (Ok e) = attribute e
-judged i (Err x) = fault (inBlock 0 (Entry (inEntry i x)))
+judged i (Err x) = refusal (inBlock 0 (Entry (inEntry i x)))
 
 -- what fields, or none of them, say as an answer
 abbrev pub asAnswer : Result (Option UserFields) Fault → Answer
 asAnswer (Ok None) = ended
 asAnswer (Ok (Some f)) = attribute (f .value .behind)
-asAnswer (Err f) = fault (report f)
+asAnswer (Err f) = refusal (report f)
 
 -- at the end of its part none, else the user attribute there, of index i, or its fault; places count from the part's start
 abbrev pub answerAt : List ℕ → ℕ → ℕ → Answer
@@ -45,14 +45,14 @@ abbrev pub Faulted : Result (Option Attribute) Fault → Report → Type 0
 Faulted (Ok o) x = ⊥
 Faulted (Err f) x = report f ≡ x
 
-abbrev pub Given : Result (Option Attribute) Fault → (Attribute → Type 0) → Type 0
-Given (Ok (Some a)) P = P a
-Given (Ok None) P = ⊥
-Given (Err f) P = ⊥
+abbrev pub Gives : Result (Option Attribute) Fault → (Attribute → Type 0) → Type 0
+Gives (Ok (Some a)) P = P a
+Gives (Ok None) P = ⊥
+Gives (Err f) P = ⊥
 
 -- a reader gives an answer and is another reader then; only an attribute moves it
 abbrev pub Tells : AttributeReader → Result (Option Attribute) Fault → AttributeReader → Answer → Type 0
 Tells before r after ended = (r ≡ Ok None) × (after ≡ before)
-Tells before r after (fault x) = Faulted r x × (after ≡ before)
+Tells before r after (refusal x) = Faulted r x × (after ≡ before)
 Tells before r after (attribute e) =
-    Given r (Is (before .part .held) (before .at) e) × (after .part ≡ before .part) × (after .at ≡ e) × (after .index ≡ before .index + 1)
+    Gives r (Is (before .part .held) (before .at) e) × (after .part ≡ before .part) × (after .at ≡ e) × (after .index ≡ before .index + 1)

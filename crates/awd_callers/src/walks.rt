@@ -1,6 +1,5 @@
 // A walk over user attributes from the first to the last. What the reader promises of each step is enough to know of the whole walk that it
 // meets exactly the attributes that the bytes are a run of.
-ghost use mathlib.Core.Path.{_≡_};
 ghost use Rattle.std.specs.Vec.{made, refused};
 ghost use Rattle.awd_callers.specs.Walks.{UserRun, FirstRefused};
 use awd_attributes::AttributeReader;

@@ -15,7 +15,7 @@ use Rattle.awd_block_fault.specs.Faults.{fault, short, inEntry, inBlock}
 use Rattle.awd_format.specs.Shapes.{readOf, text, counted}
 use Rattle.awd_value.specs.Values.{valueOf, integer, natural, truth}
 use Rattle.awd_attributes.specs.Attributes.{user, properties, userList}
-use Rattle.awd_attributes.specs.Reader.{answerAt, ended, fault as refused, attribute}
+use Rattle.awd_attributes.specs.Reader.{answerAt, ended, refusal, attribute}
 
 -- the kitchen's container as far as its end at 97: from byte 86 on its name, "a", and two empty lists
 abbrev pub container : List ℕ
@@ -52,7 +52,7 @@ pub record Parts : Type 0 where
   pub text-of-2 : readOf (user 0) (under-ab 31 2 (249 ∷ [])) 0 11 ≡ Err (Field (short 10))
   pub next-attribute : answerAt (under-ab 1 1 (249 ∷ [])) 0 0 ≡ attribute 11
   pub no-more : answerAt (under-ab 1 1 (249 ∷ [])) 11 1 ≡ ended
-  pub next-fault : answerAt (under-ab 31 2 (249 ∷ [])) 0 0 ≡ refused (report 10 10 0 0)
+  pub next-fault : answerAt (under-ab 31 2 (249 ∷ [])) 0 0 ≡ refusal (report 10 10 0 0)
   pub minus-7 : valueOf 1 (249 ∷ []) ≡ Some (1, integer (negsuc 6))
   pub least-of-16-bits : valueOf 2 (0 ∷ 128 ∷ []) ≡ Some (1, integer (negsuc 32767))
   pub most-of-32-bits : valueOf 3 (255 ∷ 255 ∷ 255 ∷ 127 ∷ []) ≡ Some (1, integer (pos 2147483647))

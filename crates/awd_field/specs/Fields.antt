@@ -9,7 +9,7 @@ use Rattle.std.specs.declared.result.Result.{Result}
 use Rattle.std.specs.declared.result.Result.the-variants.{Ok, Err}
 use Rattle.awd_source.specs.Bytes.{le, part}
 use Rattle.awd_block_fault.specs.declared.FieldFault.{FieldFault}
-use Rattle.awd_block_fault.specs.Faults.{short, on}
+use Rattle.awd_block_fault.specs.Faults.{short}
 
 -- where a holder ends: no later than the bytes do
 abbrev pub limit : List ℕ → ℕ → ℕ

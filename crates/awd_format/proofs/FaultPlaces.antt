@@ -21,7 +21,7 @@ use Rattle.awd_block_fault.specs.Faults.{fault, short, inEntry, fieldOf, on, tu
 use Rattle.awd_field.specs.Fields.{bytesAt}
 use Rattle.awd_format.specs.Runs.{Reading, countedAt, fillingAt}
 use Rattle.awd_format.specs.Shapes.{Shape, number, bytes, counted, measured, also, sound, tested, readOf, entryOf, TestsInside}
-use Rattle.awd_format.proofs.Locality.{Ahead, shape-ahead, ahead-turned}
+use Rattle.awd_format.proofs.Locality.{Ahead, shape-ahead, entry-ahead}
 
 -- the field's fault inside a fault, of each kind of fault
 abbrev ofField : FieldFault → FieldFault
@@ -79,9 +79,6 @@ placed-tested at end e m h k l flaw inside = go (flaw m) inside
 entry-placed : (entry : ℕ → Shape) (B : List ℕ) (end : ℕ) → ((i at : ℕ) → at ≤ end → Placed fieldOf at end (readOf (entry i) B at end))
     → (i at : ℕ) → at ≤ end → Placed ofField at end (entryOf (entry i) B at end)
 entry-placed entry B end placed i at l = placed-turned fieldOf fieldOf ofField (λ x. refl) at end (readOf (entry i) B at end) (placed i at l)
-
-entry-ahead : (entry : ℕ → Shape) (B : List ℕ) (end i at : ℕ) → at ≤ end → Ahead at end (entryOf (entry i) B at end)
-entry-ahead entry B end i at l = ahead-turned fieldOf at end (readOf (entry i) B at end) (shape-ahead (entry i) B at end l)
 
 pub shape-placed : (L : Shape) → TestsInside L → (B : List ℕ) (at end : ℕ) → at ≤ end → Placed fieldOf at end (readOf L B at end)
 shape-placed (number width allowed cause next) t B at end h =

@@ -19,8 +19,8 @@ use Rattle.awd_block_fault.specs.declared.FieldFault.{FieldFault}
 use Rattle.awd_block_fault.specs.declared.BlockFault.{BlockFault}
 use Rattle.awd_block_fault.specs.declared.BlockFault.the-variants.{Field, Entry}
 use Rattle.awd_block_fault.specs.Faults.{fault, short, inEntry, fieldOf, on, turned}
-use Rattle.awd_field.specs.Fields.{numberAt, bytesAt}
-use Rattle.awd_format.specs.Runs.{Reading, countedAt, fillingAt, measuredAt}
+use Rattle.awd_field.specs.Fields.{bytesAt}
+use Rattle.awd_format.specs.Runs.{Reading, countedAt, fillingAt}
 use Rattle.awd_format.specs.Shapes.{Shape, number, bytes, counted, measured, also, sound, tested, readOf, entryOf}
 use Rattle.awd_format.proofs.Standing.{length-part}
 
@@ -28,7 +28,7 @@ use Rattle.awd_format.proofs.Standing.{length-part}
 abbrev pub Ahead : {F : Type 0} → ℕ → ℕ → Result ℕ F → Type 0
 Ahead at end r = made r (λ e. (at ≤ e) × (e ≤ end))
 
-pub ahead-turned : {F G : Type 0} (turn : F → G) (at end : ℕ) (r : Result ℕ F) → Ahead at end r → Ahead at end (turned turn r)
+ahead-turned : {F G : Type 0} (turn : F → G) (at end : ℕ) (r : Result ℕ F) → Ahead at end r → Ahead at end (turned turn r)
 ahead-turned turn at end (Ok e) w = w
 ahead-turned turn at end (Err x) w = tt
 
@@ -89,6 +89,9 @@ shape-ahead (sound a flaw) B at end h =
     ahead-on (λ x. x) at end (readOf a B at end) (λ e. tested at e (flaw (part B at (e - at)))) (shape-ahead a B at end h)
     (λ e _ l. ahead-tested at end e l (flaw (part B at (e - at))))
 
+pub entry-ahead : (entry : ℕ → Shape) (B : List ℕ) (end i at : ℕ) → at ≤ end → Ahead at end (entryOf (entry i) B at end)
+entry-ahead entry B end i at l = ahead-turned fieldOf at end (readOf (entry i) B at end) (shape-ahead (entry i) B at end l)
+
 on-same : {F G : Type 0} (turn : F → G) (r : Result ℕ F) (f g : ℕ → Result ℕ G) → made r (λ e. f e ≡ g e) → on turn r f ≡ on turn r g
 on-same turn (Ok e) f g w = w
 on-same turn (Err x) f g w = refl
@@ -142,9 +145,6 @@ module _ (B C : List ℕ) where
         (made-weaker (read i B at end) (λ e. (at ≤ e) × (e ≤ end)) (λ e. fillingAt read B end turns (i + 1) e ≡ fillingAt read C end turns (i + 1) e)
         (λ e w. filling-alike turns (i + 1) e (w .1) (inner at end e end same (w .0) (omega arith))) (ahead i at h)))
 
-  entry-ahead : (entry : ℕ → Shape) (end i at : ℕ) → at ≤ end → Ahead at end (entryOf (entry i) B at end)
-  entry-ahead entry end i at l = ahead-turned fieldOf at end (readOf (entry i) B at end) (shape-ahead (entry i) B at end l)
-
   shape-alike : (L : Shape) (at end : ℕ) → at ≤ end → end ≤ length B → end ≤ length C → Alike at end → readOf L B at end ≡ readOf L C at end
   shape-alike (number width allowed cause next) at end h b c same =
       let f = λ (D : List ℕ) (v : ℕ). cond (allowed v) (readOf (next v) D (at + width) end) (Err (Field (fault cause at))) in
@@ -156,7 +156,7 @@ module _ (B C : List ℕ) where
       ∙ ap (λ r. cond (allowed v) r (Err (Field (fault cause at)))) (shape-alike (next v) (at + width) end fit b c (inner at end (at + width) end same (omega arith) (omega arith))))
   shape-alike (bytes n) at end h b c same = refl
   shape-alike (counted n entry) at end h b c same =
-      ap (turned Entry) (counted-alike (λ i. entryOf (entry i)) end (entry-ahead entry end)
+      ap (turned Entry) (counted-alike (λ i. entryOf (entry i)) end (entry-ahead entry B end)
       (λ i p l s. ap (turned fieldOf) (shape-alike (entry i) p end l b c s)) n 0 at h same)
   shape-alike (measured n entry) at end h b c same =
       fit-alike (leb (at + n) end) (at + n) (at + n) (short at)
@@ -164,7 +164,7 @@ module _ (B C : List ℕ) where
       let fit = leb-true (at + n) end yes in
       let b′ : at + n ≤ length B = omega arith in
       let c′ : at + n ≤ length C = omega arith in
-      ap (turned Entry) (filling-alike (λ i. entryOf (entry i)) (at + n) (entry-ahead entry (at + n))
+      ap (turned Entry) (filling-alike (λ i. entryOf (entry i)) (at + n) (entry-ahead entry B (at + n))
       (λ i p l s. ap (turned fieldOf) (shape-alike (entry i) p (at + n) l b′ c′ s)) n 0 at (omega arith) (inner at end at (at + n) same (omega arith) fit)))
   shape-alike (also a d) at end h b c same =
       on-alike (λ x. x) (readOf a B at end) (readOf a C at end) (λ e. readOf d B e end) (λ e. readOf d C e end) (shape-alike a at end h b c same)

@@ -1,7 +1,6 @@
 -- What runs read: exactly the members that stand there, or the fault of the first entry that is none.
 use mathlib.Core.Path.{_≡_, refl, sym, _∙_, ap, subst}
 use mathlib.Core.List.{List, [], _∷_, _++_}
-use mathlib.Core.Bool.{cond}
 use Prim.Native.Nat.{ℕ, zero, suc, _+_, _-_, _≤_, _<_}
 use native.Mathlib.Omega.{arith}
 use native.Mathlib.Nat.{add-zero, zero-add}
@@ -14,12 +13,10 @@ use Rattle.awd_block_fault.specs.declared.FieldFault.{FieldFault}
 use Rattle.awd_block_fault.specs.declared.EntryFault.{EntryFault}
 use Rattle.awd_block_fault.specs.declared.BlockFault.{BlockFault}
 use Rattle.awd_block_fault.specs.declared.BlockFault.the-variants.{Field, Entry}
-use Rattle.awd_source.specs.Bytes.{part}
 use Rattle.awd_block_fault.specs.Faults.{inEntry, short, on, turned}
-use Rattle.awd_field.specs.Fields.{bytesAt}
 use Rattle.awd_format.specs.Runs.{Reading, countedAt, fillingAt, measuredAt, KindLaw, FirstFault, CountedFault, MeasuredFault}
-use Rattle.awd_format.specs.Sets.{Stands, NoneBegins, Reads, Wide, Then, Counted, Measured}
-use Rattle.awd_format.proofs.Standing.{stands-none, stands-part, stands-more, stands-first, stands-rest, stands-one, length-part}
+use Rattle.awd_format.specs.Sets.{Stands, NoneBegins, Reads, Then, Counted, Measured}
+use Rattle.awd_format.proofs.Standing.{stands-none, stands-more, stands-first, stands-rest, stands-one}
 use Rattle.awd_format.proofs.SetLaws.{counted-none, counted-more, counted-first, measured-none, measured-more, measured-first}
 
 module _ (B : List ℕ) (at end : ℕ) where
@@ -54,16 +51,6 @@ module _ (B : List ℕ) (at end : ℕ) where
   reads-like P Q to fro (Err x) none = λ m q s. none m (fro m s q) s
 
 module _ (read : Reading) (M : ℕ → List ℕ → Type 0) (k : KindLaw read M) (B : List ℕ) (end : ℕ) (h : end ≤ length B) where
-  -- an entry that is read moves on, and stays in its holder
-  pub read-on : (i at e : ℕ) → at ≤ end → Ok e ≡ read i B at end → (at < e) × (e ≤ end)
-  read-on i at e le is =
-      let w = subst (Reads (M i) B at end) (sym is) (k .exact i B at end le h) in
-      (more (w .0) (w .1) (w .2), omega (arith, w .1, w .3 .fits))
-    where
-      more : (m : List ℕ) → e ≡ at + length m → M i m → at < e
-      more [] is p = absurd (k .nonempty i p)
-      more (b ∷ m) is p = omega arith
-
   pub counted-reads : (n i at : ℕ) → at ≤ end → Reads (Counted M i n) B at end (countedAt read B end n i at)
   counted-reads zero i at le = ([], sym (add-zero at), counted-none M i, stands-none B at end le)
   counted-reads (suc n) i at le =

@@ -2,7 +2,7 @@
 use mathlib.Core.Path.{_≡_, refl, sym, _∙_, ap, subst}
 use mathlib.Core.List.{List, []}
 use mathlib.Core.Bool.{Bool, cond, true, false}
-use Prim.Native.Nat.{ℕ, _+_, _-_, _≤_, _<_}
+use Prim.Native.Nat.{ℕ, _+_, _-_, _≤_}
 use native.Mathlib.Omega.{arith}
 use lib.ListN.{length}
 use lib.Dec.{leb}
@@ -15,7 +15,7 @@ use Rattle.awd_source.specs.Bytes.{le, part}
 use Rattle.awd_block_fault.specs.declared.FieldFault.{FieldFault}
 use Rattle.awd_block_fault.specs.declared.BlockFault.{BlockFault}
 use Rattle.awd_block_fault.specs.declared.BlockFault.the-variants.{Field, Entry}
-use Rattle.awd_block_fault.specs.Faults.{fault, short, fieldOf, on, turned}
+use Rattle.awd_block_fault.specs.Faults.{fault, short, fieldOf, on}
 use Rattle.awd_field.specs.Fields.{numberAt, bytesAt}
 use Rattle.awd_format.specs.Runs.{KindLaw, countedAt}
 use Rattle.awd_format.specs.Sets.{Stands, NoneBegins, Reads, Wide, Then, Counted}

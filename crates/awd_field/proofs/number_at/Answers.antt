@@ -1,6 +1,5 @@
-use borrow.Author.Needs.{needs}
 use mathlib.Core.Path.{_≡_, subst}
-use Prim.Native.Nat.{_+_, _-_, _*_, _^_, _<_, _≤_, suc}
+use Prim.Native.Nat.{_+_, _-_, _*_, _^_, _<_, suc}
 use native.Mathlib.Omega.{arith}
 use lib.ListN.{length, getD}
 use Rattle.std.proofs.shelf.Ways.{tells}

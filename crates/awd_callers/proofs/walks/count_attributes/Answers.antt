@@ -1,12 +1,11 @@
-use mathlib.Core.Path.{_≡_, refl, sym, _∙_, ap, subst}
+use mathlib.Core.Path.{_≡_, sym, _∙_, ap, subst}
 use Prim.Native.Nat.{_+_}
 use native.Mathlib.Omega.{arith}
 use denote.Ref.{now}
-use Rattle.std.specs.declared.option.Option.the-variants.{Some, None}
-use Rattle.std.specs.declared.result.Result.the-variants.{Ok, Err}
+use Rattle.std.specs.declared.result.Result.the-variants.{Ok}
 use Rattle.std.proofs.shelf.Results.{err-from-errBy}
 use Rattle.awd_fault.specs.Faults.{report}
-use Rattle.awd_attributes.specs.Reader.{Tells, answerAt, ended, fault, attribute}
+use Rattle.awd_attributes.specs.Reader.{Tells, answerAt, ended, refusal, attribute}
 use Rattle.awd_attributes.proofs.Walks.{Walked, gave, gave-none, refused, walked-more, walked-all, walked-fault}
 use Rattle.awd_callers.specs.Walks.{UserRun}
 use Rattle.awd_callers.proofs.walks.count_attributes.Needs as need
@@ -17,7 +16,7 @@ returns-in-Break-next c =
     let B = c .args .part .now in
     let f = c .in-Break-next .field-0 .0 in
     let t = refused w (c .next .last .self) f _ (c .in-Break-next .ensures tt) in
-    let ans : answerAt B (w .at) (w .index) ≡ fault (report f) = subst (λ C. answerAt C (w .at) (w .index) ≡ fault (report f)) (c .loop-count .inv .0) t in
+    let ans : answerAt B (w .at) (w .index) ≡ refusal (report f) = subst (λ C. answerAt C (w .at) (w .index) ≡ refusal (report f)) (c .loop-count .inv .0) t in
     let p = err-from-errBy (c .from-residual .result) (c .from-residual .ensures .1) in
     rw (p .1, p .2) (record { run = tt; first = walked-fault B (w .at) (w .index) (report f) (c .loop-count .inv .2) ans })
 

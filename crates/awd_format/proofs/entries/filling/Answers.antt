@@ -6,7 +6,6 @@ use Rattle.std.proofs.shelf.Results.{err-from-errBy}
 use Rattle.std.specs.declared.result.Result.the-variants.{Ok, Err}
 use Rattle.awd_block_fault.specs.Faults.{inEntry, turned}
 use Rattle.awd_field.specs.Fields.{limit}
-use Rattle.awd_format.specs.Runs.{fillingAt}
 use Rattle.awd_format.proofs.Steps.{filling-ok, filling-err, filling-all}
 use Rattle.awd_format.proofs.entries.filling.Needs as need
 
