@@ -11,11 +11,12 @@ use Rattle.awd_attributes.specs.declared.kinds.TypedValue.{TypedValue}
 use Rattle.awd_attributes.specs.declared.kinds.UserFields.{UserFields}
 use Rattle.awd_attributes.specs.Fields.{typeAt, valueAt, valueSize}
 
--- the places behind them
+-- the place behind a typed value
 abbrev pub behindValue : Result TypedValue FieldFault → Result ℕ FieldFault
 behindValue (Ok v) = Ok (v .behind)
 behindValue (Err x) = Err x
 
+-- the place behind a user attribute
 abbrev pub behindFields : Result UserFields FieldFault → Result ℕ FieldFault
 behindFields (Ok f) = Ok (f .value .behind)
 behindFields (Err x) = Err x

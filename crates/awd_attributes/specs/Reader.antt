@@ -27,6 +27,7 @@ pub data Answer : Type 0 where
   refusal : Report → Answer
   attribute : ℕ → Answer
 
+-- what the reading of the attribute of index i comes to
 abbrev pub judged : ℕ → Result ℕ FieldFault → Answer
 judged i (Ok e) = attribute e
 judged i (Err x) = refusal (inBlock 0 (Entry (inEntry i x)))
@@ -41,10 +42,12 @@ asAnswer (Err f) = refusal (report f)
 abbrev pub answerAt : List ℕ → ℕ → ℕ → Answer
 answerAt B at i = cond (leb (length B) at) ended (judged i (entryOf (user i) B at (length B)))
 
+-- a result is a fault that says x
 abbrev pub Faulted : Result (Option Attribute) Fault → Report → Type 0
 Faulted (Ok o) x = ⊥
 Faulted (Err f) x = report f ≡ x
 
+-- a result is an attribute of which P holds
 abbrev pub Gives : Result (Option Attribute) Fault → (Attribute → Type 0) → Type 0
 Gives (Ok (Some a)) P = P a
 Gives (Ok None) P = ⊥

@@ -11,6 +11,7 @@ use Rattle.awd_block_fault.specs.declared.EntryFault.{EntryFault}
 use Rattle.awd_block_fault.specs.declared.BlockFault.{BlockFault}
 use Rattle.awd_block_fault.specs.declared.BlockFault.the-variants.{Header, Field, Entry}
 
+-- a cause at a place
 abbrev pub fault : Cause → ℕ → FieldFault
 fault cause place = record { cause = cause; place = place }
 

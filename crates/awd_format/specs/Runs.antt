@@ -2,7 +2,7 @@
 use mathlib.Core.Path.{_≡_}
 use mathlib.Core.List.{List, []}
 use mathlib.Core.Bool.{cond}
-use Prim.Native.Nat.{ℕ, zero, suc, _+_, _≤_}
+use Prim.Native.Nat.{ℕ, zero, suc, _+_, _<_, _≤_}
 use lib.Dec.{eqb}
 use lib.ListN.{length}
 use Rattle.std.specs.declared.result.Result.{Result}
@@ -58,5 +58,5 @@ CountedFault read M B at end (Err x) = FirstFault read M B at end x
 abbrev pub MeasuredFault : Reading → (ℕ → List ℕ → Type 0) → List ℕ → ℕ → ℕ → ℕ → Result ℕ BlockFault → Type 0
 MeasuredFault read M B at end size (Ok e) = Unit {0}
 MeasuredFault read M B at end size (Err (Entry x)) = (at + size ≤ end) × FirstFault read M B at (at + size) x
-MeasuredFault read M B at end size (Err (Field x)) = (suc end ≤ at + size) × (x ≡ short at)
+MeasuredFault read M B at end size (Err (Field x)) = (end < at + size) × (x ≡ short at)
 MeasuredFault read M B at end size (Err (Header x)) = ⊥

@@ -85,6 +85,7 @@ TestsInside (measured n entry) = (i : ℕ) → TestsInside (entry i)
 TestsInside (also a b) = TestsInside a × TestsInside b
 TestsInside (sound a flaw) = TestsInside a × ((m : List ℕ) (x : FieldFault) → flaw m ≡ Some x → x .place ≤ length m)
 
+-- every value
 abbrev pub any : ℕ → Bool
 any v = true
 

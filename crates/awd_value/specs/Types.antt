@@ -7,6 +7,7 @@ use Rattle.std.specs.declared.option.Option.the-variants.{Some, None}
 use Rattle.awd_value.specs.declared.types.ValueType.{ValueType}
 use Rattle.awd_value.specs.declared.types.ValueType.the-variants as type
 
+-- the number of a type
 abbrev pub typeNumber : ValueType → ℕ
 typeNumber type.Int8 = 1
 typeNumber type.Int16 = 2
@@ -35,14 +36,16 @@ fixedSize t =
 abbrev pub anySize : ℕ → Bool
 anySize t = eqb t 31 || eqb t 32
 
--- whether a value of a type may have a size
+-- whether a size is the one that is fixed
 abbrev pub fits : Option ℕ → ℕ → Bool
 fits None n = false
 fits (Some size) n = eqb n size
 
+-- whether a value of a type may have a size
 abbrev pub suits : ℕ → ℕ → Bool
 suits t n = anySize t || fits (fixedSize t) n
 
+-- whether a size is fixed
 abbrev pub isSome : Option ℕ → Bool
 isSome None = false
 isSome (Some n) = true

@@ -28,6 +28,7 @@ told (Single x) = (3, float x)
 told (Double x) = (4, float x)
 told (YesNo b) = (5, truth b)
 
+-- the same of a value that may not be there
 abbrev pub toldOf : Option Number → Option (ℕ × Content)
 toldOf None = None
 toldOf (Some n) = Some (told n)
