@@ -1,25 +1,11 @@
--- What is read of a typed value and of a user attribute. Assumes nothing.
+-- What is read of a user attribute. Assumes nothing.
 use mathlib.Core.Path.{_≡_}
 use mathlib.Core.List.{List}
 use Prim.Native.Nat.{ℕ, _+_}
-use Rattle.std.specs.declared.result.Result.{Result}
-use Rattle.std.specs.declared.result.Result.the-variants.{Ok, Err}
 use Rattle.awd_source.specs.Bytes.{le, part}
-use Rattle.awd_block_fault.specs.declared.FieldFault.{FieldFault}
 use Rattle.awd_value.specs.Types.{typeNumber}
-use Rattle.awd_attributes.specs.declared.kinds.TypedValue.{TypedValue}
 use Rattle.awd_attributes.specs.declared.kinds.UserFields.{UserFields}
 use Rattle.awd_attributes.specs.Fields.{typeAt, valueAt, valueSize}
-
--- the place behind a typed value
-abbrev pub behindValue : Result TypedValue FieldFault → Result ℕ FieldFault
-behindValue (Ok v) = Ok (v .behind)
-behindValue (Err x) = Err x
-
--- the place behind a user attribute
-abbrev pub behindFields : Result UserFields FieldFault → Result ℕ FieldFault
-behindFields (Ok f) = Ok (f .value .behind)
-behindFields (Err x) = Err x
 
 -- the fields are those of the user attribute at a place
 abbrev pub FieldsOf : List ℕ → ℕ → UserFields → Type 0

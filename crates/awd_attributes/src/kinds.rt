@@ -2,13 +2,14 @@
 ghost use mathlib.Core.Path.{_≡_};
 ghost use Prim.Native.Nat.{_+_, _≤_};
 ghost use lib.ListN.{length};
+ghost use Rattle.std.specs.Results.{mapped};
 ghost use Rattle.std.specs.Vec.{made};
 ghost use Rattle.awd_source.specs.Bytes.{le, part};
 ghost use Rattle.awd_field.specs.Fields.{limit};
 ghost use Rattle.awd_format.specs.Shapes.{SetOf, readOf, entryOf};
 ghost use Rattle.awd_fault.specs.declared.Cause.the-variants.{ValueNotAllowed};
 ghost use Rattle.awd_block_fault.specs.Faults.{fault};
-ghost use Rattle.awd_attributes.specs.Parts.{behindValue, behindFields, FieldsOf};
+ghost use Rattle.awd_attributes.specs.Parts.{FieldsOf};
 ghost use Rattle.awd_value.specs.Types.{typeNumber};
 ghost use Rattle.awd_attributes.specs.Attributes.{numeric, typed, user, properties, userList};
 use awd_block_fault::BlockFault;
@@ -57,7 +58,7 @@ pub(crate) struct TypedValue {
 
 // A typed value: its type, its size and its bytes, each judged before the next.
 fn typed_value<S: Source>(source: &S, at: u64, end: u64) -> Result<TypedValue, FieldFault>
-    ensures read { λ r. let B = S·Source .bytes (now (source .entry)) in ⌜ behindValue r ≡ entryOf typed B at (limit B end) ⌝ }
+    ensures read { λ r. let B = S·Source .bytes (now (source .entry)) in ⌜ mapped (λ v. v .behind) (λ x. x) r ≡ entryOf typed B at (limit B end) ⌝ }
     ensures parts { λ r. let B = S·Source .bytes (now (source .entry)) in ⌜ made r (λ v. (typeNumber (v .«value_type») ≡ le (part B at 1)) × (v .behind ≡ at + 1 + 4 + le (part B (at + 1) 4)) × (v .behind ≤ end) × (v .behind ≤ length B)) ⌝ }
 {
     let number = number_at(source, at, end, ONE)?;
@@ -86,7 +87,7 @@ pub(crate) fn user_fields<S: Source>(
     at: u64,
     end: u64,
 ) -> Result<UserFields, FieldFault>
-    ensures read { λ r. let B = S·Source .bytes (now (source .entry)) in ⌜ behindFields r ≡ entryOf (user 0) B at (limit B end) ⌝ }
+    ensures read { λ r. let B = S·Source .bytes (now (source .entry)) in ⌜ mapped (λ f. f .value .behind) (λ x. x) r ≡ entryOf (user 0) B at (limit B end) ⌝ }
     ensures parts { λ r. let B = S·Source .bytes (now (source .entry)) in ⌜ made r (λ f. FieldsOf B at f × (f .value .behind ≤ end) × (f .value .behind ≤ length B)) ⌝ }
 {
     let namespace = number_at(source, at, end, ONE)?;

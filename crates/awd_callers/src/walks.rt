@@ -1,5 +1,5 @@
-// A walk over user attributes from the first to the last. What the reader promises of each step is enough to know of the whole walk that it
-// meets exactly the attributes that the bytes are a run of.
+// A walk over user attributes from the first to the last. What the reader promises of each step is enough to know of the whole walk: after n
+// attributes and then none, the bytes are a run of n of them; a fault is that of the first entry that is none.
 ghost use Rattle.std.specs.Vec.{made, refused};
 ghost use Rattle.awd_callers.specs.Walks.{UserRun, FirstRefused};
 use awd_attributes::AttributeReader;

@@ -84,7 +84,7 @@ fn numbers() -> Result<(), Fail> {
     )
 }
 
-// Place, holder's end and size of bytes in a source of 9; the place behind them. None of them fit at the very end.
+// Place, holder's end and size of bytes in a source of 9; the place behind them. No bytes at all fit at the very end.
 const SKIPS: [(u64, u64, u64, Answer); 8] = [
     (0, 9, 9, Ok(9)),
     (4, 6, 2, Ok(6)),

@@ -1,7 +1,8 @@
 -- The types of user attributes' values, by number, and their sizes. Assumes nothing.
-use mathlib.Core.Bool.{Bool, cond, true, false, _||_}
+use mathlib.Core.Bool.{Bool, cond, false, _||_}
 use Prim.Native.Nat.{ℕ}
 use lib.Dec.{eqb}
+use Rattle.std.specs.Options.{isSome}
 use Rattle.std.specs.declared.option.Option.{Option}
 use Rattle.std.specs.declared.option.Option.the-variants.{Some, None}
 use Rattle.awd_value.specs.declared.types.ValueType.{ValueType}
@@ -44,11 +45,6 @@ fits (Some size) n = eqb n size
 -- whether a value of a type may have a size
 abbrev pub suits : ℕ → ℕ → Bool
 suits t n = anySize t || fits (fixedSize t) n
-
--- whether a size is fixed
-abbrev pub isSome : Option ℕ → Bool
-isSome None = false
-isSome (Some n) = true
 
 -- whether there is a type of a number
 abbrev pub known : ℕ → Bool

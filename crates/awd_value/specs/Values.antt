@@ -28,11 +28,6 @@ told (Single x) = (3, float x)
 told (Double x) = (4, float x)
 told (YesNo b) = (5, truth b)
 
--- the same of a value that may not be there
-abbrev pub toldOf : Option Number → Option (ℕ × Content)
-toldOf None = None
-toldOf (Some n) = Some (told n)
-
 -- the number that v, of so many bytes, is in two's complement
 abbrev pub twos : ℕ → ℕ → ℤ
 twos size v = cond (ltb v (2 ^ (8 * size - 1))) (pos v) (negsuc (2 ^ (8 * size) - suc v))

@@ -1,8 +1,9 @@
 // What the bytes of a number say, by the type of the value.
 ghost use denote.Ref.{now};
 ghost use mathlib.Core.Path.{_≡_};
+ghost use Rattle.std.specs.Options.{mapped};
 ghost use Rattle.awd_value.specs.Types.{typeNumber, fixedSize};
-ghost use Rattle.awd_value.specs.Values.{told, toldOf, valueOf, valueIn, Within, sizeOr0};
+ghost use Rattle.awd_value.specs.Values.{told, valueOf, valueIn, Within, sizeOr0};
 use crate::types::ValueType;
 use awd_field::number_at;
 use awd_source::Run;
@@ -24,7 +25,7 @@ impl ValueType {
     // The value of bytes of this type; none for text and raw bytes, and where the bytes have not the type's size. Any byte but 0 is
     // yes; a colour and an ID are unsigned; a pattern that is no number gives a float that is not a number.
     pub fn value(self, bytes: &[u8]) -> Option<Number>
-        ensures { λ r. ⌜ toldOf r ≡ valueOf (typeNumber self) (now (bytes .entry)) ⌝ }
+        ensures { λ r. ⌜ mapped told r ≡ valueOf (typeNumber self) (now (bytes .entry)) ⌝ }
     {
         let size = self.size()?;
         if size.bytes != bytes.len() as u64 {
