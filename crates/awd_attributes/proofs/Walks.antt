@@ -22,9 +22,9 @@ use Rattle.awd_block_fault.specs.Faults.{inEntry, inBlock}
 use Rattle.awd_format.specs.Runs.{FirstFault}
 use Rattle.awd_format.specs.Sets.{Stands, Counted, Reads}
 use Rattle.awd_format.specs.Shapes.{SetOf, entryOf}
-use Rattle.awd_format.proofs.SetLaws.{counted-none, counted-push}
+use Rattle.awd_format.proofs.SetLaws.{counted-push}
 use Rattle.awd_format.proofs.ShapeLaws.{shape-kind}
-use Rattle.awd_format.proofs.Standing.{stands-none, stands-more}
+use Rattle.awd_format.proofs.Standing.{stands-more}
 use Rattle.awd_attributes.specs.declared.attribute.Attribute.{Attribute}
 use Rattle.awd_attributes.specs.declared.reader.AttributeReader.{AttributeReader}
 use Rattle.awd_attributes.specs.Attributes.{user}
@@ -83,9 +83,6 @@ module _ (B : List ℕ) where
   -- so many attributes fill the bytes as far as a place
   abbrev pub Walked : ℕ → ℕ → Type 0
   Walked at i = (m : List ℕ) × Counted (λ i. SetOf (user i)) 0 i m × Stands B 0 (length B) m × (at ≡ length m)
-
-  pub walked-none : Walked 0 0
-  walked-none = ([], counted-none (λ i. SetOf (user i)) 0, stands-none B 0 (length B) (omega arith), refl)
 
   pub walked-more : (at i e : ℕ) → Walked at i → answerAt B at i ≡ attribute e → (at < e) × (e ≤ length B) × Walked e (i + 1)
   walked-more at i e (m, c, s, is) ans =
