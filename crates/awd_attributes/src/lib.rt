@@ -1,5 +1,7 @@
 // Attributes: values under numbers and values under names, which most blocks carry.
 // This crate knows nothing of blocks or sessions.
+#![tactic(auto)]
+
 mod attribute;
 mod kinds;
 mod reader;

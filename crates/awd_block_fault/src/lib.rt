@@ -1,5 +1,7 @@
 // Faults inside faults: a field's inside an entry's, both inside a block's, carried up by `?`.
 // This crate knows nothing of bytes, shapes or sessions.
+#![tactic(auto)]
+
 ghost use Rattle.std.specs.Prelude.{◌≡◌};
 ghost use Rattle.awd_fault.specs.Faults.{report};
 ghost use Rattle.awd_block_fault.specs.Faults.{in_entry, field_of, in_block};

@@ -1,5 +1,7 @@
 // Blocks: one block after others, with its header and its body, and the list of blocks that bytes hold (specs/Lists.antt).
 // This crate knows nothing of edits or sessions.
+#![tactic(auto)]
+
 mod blocks;
 mod heads;
 mod laws;

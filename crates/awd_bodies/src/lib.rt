@@ -1,5 +1,7 @@
 // The bodies of blocks: scenes, geometries and skeletons. Each reader gives the place behind the body's last field, or the first fault.
 // This crate knows nothing of block headers or sessions.
+#![tactic(auto)]
+
 mod fields;
 mod groups;
 mod scene;

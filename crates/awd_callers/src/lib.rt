@@ -1,5 +1,7 @@
 // Callers of the library as they are accepted. Small edits of them must be refused: those in refused/ by the
 // compiler's borrow checker and privacy, those in must-fail/ by the prover.
+#![tactic(auto)]
+
 ghost use Rattle.std.specs.Prelude.{◌≡◌, false, slice_index, slice_set};
 ghost use Rattle.awd_fault.specs.Faults.{answer};
 ghost use Rattle.awd_header.specs.Header.{opening};

@@ -1,5 +1,7 @@
 // What a refusal says: its cause, the place of the first fault, the block, the layer and the entry.
 // This crate knows nothing of bytes, sources or sessions.
+#![tactic(auto)]
+
 ghost use Rattle.std.specs.Prelude.{◌≡◌, Some, Decides};
 ghost use Rattle.awd_fault.specs.Faults.{cause_number, layer_number, report, in_header, of_call};
 ghost use Rattle.awd_fault.specs.Texts.{cause_text};

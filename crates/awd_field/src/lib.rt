@@ -1,6 +1,8 @@
 // Fields: numbers and bytes at a place in a holder. A holder is what a field must fit; it is given by the place where it ends, and ends no
 // later than the source does.
 // This crate knows nothing of shapes, blocks or sessions.
+#![tactic(auto)]
+
 ghost use Rattle.std.specs.Prelude.{◌≡◌, ◌+◌, ◌-◌, ◌^◌, ◌<◌, ◌≤◌, length, IfOk};
 ghost use Rattle.awd_source.specs.Bytes.{le, part};
 ghost use Rattle.awd_field.specs.Fields.{limit, bytes_at, number_at};

@@ -1,6 +1,8 @@
 // How a part of the format is described and read: shapes (specs/Shapes.antt), texts and runs of entries. The code is written once, for
 // every kind of entry and every source.
 // This crate knows nothing of blocks or sessions.
+#![tactic(auto)]
+
 mod entries;
 mod laws;
 mod text;

@@ -1,5 +1,7 @@
 // The document header: the 12 bytes in front of the blocks, what they say, and when they are refused.
 // This crate knows nothing of blocks or sessions.
+#![tactic(auto)]
+
 ghost use Rattle.std.specs.Prelude.{◌≡◌, ◌<◌, slice_index};
 ghost use Rattle.awd_fault.specs.Faults.{answer};
 ghost use Rattle.awd_header.specs.Header.{bit, flags_of, body_length, header_of, judged, size_rules, magic_rules, field_rules, rules, opening, Right};

@@ -1,5 +1,7 @@
 // What the program awdlist writes for an input, as a text.
 // This crate knows how a listing reads; it neither reads input nor prints.
+#![tactic(auto)]
+
 ghost use Rattle.std.specs.Prelude.{◌≡◌, IfOk, string_bytes};
 ghost use Rattle.awd_fault.specs.Faults.{report};
 ghost use Rattle.awd_listing.specs.Listing.{opened_line, fault_line, listing_of};

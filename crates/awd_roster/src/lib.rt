@@ -1,5 +1,7 @@
 // The roster: what is known of the blocks that were taken, and what an address among them means.
 // This crate knows nothing of bytes, bodies or sessions.
+#![tactic(auto)]
+
 mod record;
 mod roster;
 

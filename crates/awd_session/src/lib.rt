@@ -1,6 +1,8 @@
 // A session over a source of bytes: it opens the document that the source holds, tells what its header says,
 // and is itself a source. It owns what it reads from and gives it back when it is closed.
 // This crate knows nothing of printing, nor of what kind its source is.
+#![tactic(auto)]
+
 ghost use Rattle.std.specs.Prelude.{◌≡◌, false, OnErr};
 ghost use Rattle.awd_fault.specs.Faults.{answer};
 ghost use Rattle.awd_header.specs.Header.{Right};

@@ -1,6 +1,8 @@
 // awdattr: lists the user attributes on standard input, which are the bytes between a user list's total and its end.
 // A line for each attribute: its index, namespace, key, type and value; last `end` and how many there are, or `fault` with
 // cause, place, block, layer and index. Keys, texts and raw bytes are written byte by byte, a float by its bits.
+#![tactic(auto)]
+
 use awd_attributes::{Attribute, AttributeReader, Value};
 use awd_value::Number;
 use std::io::Read;

@@ -1,5 +1,7 @@
 // awdlist: lists the AWD document on standard input.
 // It reads, has the library make the listing, and prints it; what the listing says is proved there.
+#![tactic(auto)]
+
 use awd_listing::{MAX_INPUT, listing};
 use std::io::Read;
 

@@ -1,0 +1,67 @@
+#!/usr/bin/env python3
+"""Compares awdlist with a reader of AWD documents in Python that shares no code with it.
+
+The reader (reader.py) is by the same authors and from the same rules, so it catches mistakes of the program and not a
+rule that was misread. Both are given lawful documents of every kind and width, documents aimed at each refusal, and
+damaged ones (documents.py); each must write the same. Each outcome must be met.
+
+Usage: tests/compare.py target/bin/awdlist
+"""
+
+import collections
+import random
+import sys
+
+from agreement import compare
+from documents import inputs
+from reader import listing
+
+SEED = 2
+
+# An input over the limit, an end, and each cause of opening and reading but two: no document that awdlist reads is
+# too long for being opened (3), and awdlist never asks for a block before it has opened one (8).
+OUTCOMES = ["input over 65536", "end"] + [f"fault {cause}" for cause in (2, 4, 5, 6, 7, *range(9, 18))]
+
+
+def outcome(written):
+    """How a listing ends, without its numbers: an end, the cause of a fault, or an input over the limit."""
+    last = written.splitlines()[-1]
+    words = {"end": 1, "fault": 2}.get(last.split()[0])
+    return " ".join(last.split()[:words])
+
+
+class Tally:
+    """The listing of the reader in Python, which counts the outcomes."""
+
+    def __init__(self):
+        self.counts = collections.Counter()
+
+    def __call__(self, data):
+        written = listing(data)
+        self.counts[outcome(written)] += 1
+        return written
+
+    def missing(self):
+        """The outcomes that were not met."""
+        return [name for name in OUTCOMES if not self.counts[name]]
+
+    def show(self):
+        for name in OUTCOMES:
+            print(f"{self.counts[name]:6} {name}")
+
+
+def main(program):
+    """The exit status: 0 where both agree on all inputs and each outcome was met."""
+    tally = Tally()
+    status = compare(program, "awdlist", inputs(random.Random(SEED)), tally)
+    if status != 0:
+        return status
+    tally.show()
+    if tally.missing():
+        print(f"no input ended in: {', '.join(tally.missing())}")
+        return 1
+    return 0
+
+
+if __name__ == "__main__":
+    sys.exit(main(sys.argv[1]))
