@@ -2,7 +2,7 @@
 // This crate knows nothing of bytes, sources or sessions.
 #![tactic(auto)]
 
-ghost use Rattle.std.specs.Prelude.{◌≡◌, Some, Decides};
+ghost use Rattle.std.specs.Prelude.{◌≡◌, Some, IsTrue, ◌↔◌, ◌==◌};
 ghost use Rattle.awd_fault.specs.Faults.{cause_number, layer_number, report, in_header, of_call};
 ghost use Rattle.awd_fault.specs.Texts.{cause_text};
 ghost use Rattle.std.specs.Cmp.Rules.{comparing};
@@ -94,13 +94,16 @@ impl Cause {
     }
 }
 
-// Causes are equal where their numbers are.
+// Causes are equal where their numbers are, and so exactly where they are the same.
 impl PartialEq for Cause {
-    ghost equals = { λ x y r. Decides r (x ≡ y) };
+    ghost eq = { λ x y. cause_number x == cause_number y };
 
-    ghost laws = { Keys.partial_equiv_from_equiv (Prim.search (comparing, rules)) };
+    ghost laws = { Prim.search (comparing, rules) };
 
-    fn eq(&self, other: &Cause) -> bool {
+    fn eq(&self, other: &Cause) -> bool
+        ensures value { result ≡ (cause_number self.now == cause_number other.now) }
+        ensures decides { IsTrue result ↔ (self.now ≡ other.now) }
+    {
         self.number() == other.number()
     }
 }
