@@ -4,13 +4,13 @@ use Rattle.awd_source.specs.Bytes.{le, part}
 use Rattle.awd_field.proofs.Numbers.{turn, below_more, room, from_first}
 use Rattle.awd_field.proofs.spell.Goals as goal
 
-pub overflow-mul-value : goal.overflow-mul-value
-overflow-mul-value g c =
+pub overflow_mul-value : goal.overflow_mul-value
+overflow_mul-value g c =
     let r = room _ c.loop-place.value (omega arith) c.loop-place.invariant.2 in
     omega arith
 
-pub overflow-add-value : goal.overflow-add-value
-overflow-add-value g c =
+pub overflow_add-value : goal.overflow_add-value
+overflow_add-value g c =
     let b : c.from.result < 256 = omega arith in
     let r = room _ c.loop-place.value (omega arith) c.loop-place.invariant.2 in
     omega arith

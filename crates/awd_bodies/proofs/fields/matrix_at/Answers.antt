@@ -8,15 +8,15 @@ use Rattle.awd_bodies.proofs.fields.matrix_at.Goals as goal
 pub loop-init : goal.loop-init
 loop-init g c = (refl, omega arith, λ h. absurd (omega arith))
 
-pub returns-in-err-place : goal.returns-in-err-place
-returns-in-err-place g c =
+pub returns-in_err-place : goal.returns-in_err-place
+returns-in_err-place g c =
     let B = g.S.Source.bytes c.args.source.now in
     let E = limit B c.args.end in
     let w = width_size c.args.width in
-    let x = c.in-err-place.field-0.0 in
+    let x = c.in_err-place.field-0.0 in
     let is : Err x ≡ bytes_at c.loop.place E w = search rules in
     let m = cell-fault B E w 12 c.loop.counter c.loop.place x c.loop-test.true is in
-    let p = err_from_is_err_and c.from-residual.result c.from-residual.ensures.1 in
+    let p = err_from_is_err_and c.from_residual.result c.from_residual.ensures.1 in
     rw (p.1, p.2) (record { read = m ∙ c.loop.invariant.0; fits = tt })
 
 pub loop-preserved : goal.loop-preserved
@@ -24,8 +24,8 @@ loop-preserved g c =
     let B = g.S.Source.bytes c.args.source.now in
     let E = limit B c.args.end in
     let w = width_size c.args.width in
-    let e = c.in-ok-place.place in
-    let fits = c.in-ok-place.ensures.fits in
+    let e = c.in_ok-place.place in
+    let fits = c.in_ok-place.ensures.fits in
     let is : Ok e ≡ bytes_at c.loop.place E w = search rules in
     (cell-more B E w 12 c.loop.counter c.loop.place e c.loop-test.true is ∙ c.loop.invariant.0, omega arith, λ h. (omega arith, omega arith))
 

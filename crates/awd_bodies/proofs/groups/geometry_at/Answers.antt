@@ -8,4 +8,4 @@ use Rattle.awd_bodies.proofs.groups.geometry_at.Goals as goal
 pub returns : goal.returns
 returns g c =
     let B = g.S.Source.bytes c.args.source.now in
-    c.group-at.ensures ∙ group-read (sub_geometry (width_size c.args.width)) B c.args.at (limit B c.args.end)
+    c.group_at.ensures ∙ group-read (sub_geometry (width_size c.args.width)) B c.args.at (limit B c.args.end)

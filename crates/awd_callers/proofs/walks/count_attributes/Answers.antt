@@ -6,14 +6,14 @@ use Rattle.awd_attributes.proofs.Walks.{Walked, gave, gave-none, refused, walked
 use Rattle.awd_callers.specs.Walks.{UserRun}
 use Rattle.awd_callers.proofs.walks.count_attributes.Goals as goal
 
-pub returns-in-err-next : goal.returns-in-err-next
-returns-in-err-next c =
+pub returns-in_err-next : goal.returns-in_err-next
+returns-in_err-next c =
     let w = c.loop-count.reader in
     let B = c.args.part.now in
-    let f = c.in-err-next.field-0.0 in
-    let t = refused w c.next.new.self f _ c.in-err-next.ensures in
+    let f = c.in_err-next.field-0.0 in
+    let t = refused w c.next.new.self f _ c.in_err-next.ensures in
     let ans : answer_at B w.at w.index ≡ refusal (report f) = subst (λ C. answer_at C w.at w.index ≡ refusal (report f)) c.loop-count.invariant.0 t in
-    let p = err_from_is_err_and c.from-residual.result c.from-residual.ensures.1 in
+    let p = err_from_is_err_and c.from_residual.result c.from_residual.ensures.1 in
     rw (p.1, p.2) (record { run = tt; first = walked-fault B w.at w.index (report f) c.loop-count.invariant.2 ans })
 
 pub loop-count-preserved : goal.loop-count-preserved
@@ -21,7 +21,7 @@ loop-count-preserved c =
     let w = c.loop-count.reader in
     let w' = c.next.new.self in
     let B = c.args.part.now in
-    let t = subst (λ o. Tells w (Ok o) w' (answer_at w.part.held.now w.at w.index)) c.in-Some.is c.in-ok-next.ensures in
+    let t = subst (λ o. Tells w (Ok o) w' (answer_at w.part.held.now w.at w.index)) c.in-Some.is c.in_ok-next.ensures in
     let g = gave w w' c.in-Some.field-0 _ t in
     let ans : answer_at B w.at w.index ≡ attribute g.0 = subst (λ C. answer_at C w.at w.index ≡ attribute g.0) c.loop-count.invariant.0 g.1 in
     let more = walked_more B w.at w.index g.0 c.loop-count.invariant.2 ans in
@@ -33,6 +33,6 @@ returns c =
     let w = c.loop-count.reader in
     let w' = c.next.new.self in
     let B = c.args.part.now in
-    let t = subst (λ o. Tells w (Ok o) w' (answer_at w.part.held.now w.at w.index)) c.in-default.is c.in-ok-next.ensures in
+    let t = subst (λ o. Tells w (Ok o) w' (answer_at w.part.held.now w.at w.index)) c.in_default.is c.in_ok-next.ensures in
     let ans : answer_at B w.at w.index ≡ ended = subst (λ C. answer_at C w.at w.index ≡ ended) c.loop-count.invariant.0 (gave-none w w' _ t) in
     record { run = subst (λ n. UserRun n B) (sym c.loop-count.invariant.1) (walked_all B w.at w.index c.loop-count.invariant.2 ans); first = tt }

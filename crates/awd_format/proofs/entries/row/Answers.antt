@@ -5,17 +5,17 @@ use Rattle.awd_field.specs.Fields.{limit}
 use Rattle.awd_format.proofs.Steps.{counted-ok, counted-err, counted-all}
 use Rattle.awd_format.proofs.entries.row.Goals as goal
 
-pub returns-in-err-place : goal.returns-in-err-place
-returns-in-err-place g c =
+pub returns-in_err-place : goal.returns-in_err-place
+returns-in_err-place g c =
     let read = g.K.EntryKind.reading c.args.kind.now in
     let B = g.S.Source.bytes c.args.source.now in
     let end = limit B c.args.end in
     let i = c.loop-index.index in
     let at = c.loop-index.place in
-    let x = c.in-err-place.field-0.0 in
+    let x = c.in_err-place.field-0.0 in
     let is : Err x ≡ turned (in_entry i) (read i B at end) = search rules in
     let step = counted-err read B end c.args.count i at x c.loop-index-test.true is in
-    let p = err_from_is_err_and c.from-residual.result c.from-residual.ensures.1 in
+    let p = err_from_is_err_and c.from_residual.result c.from_residual.ensures.1 in
     rw (p.1, p.2) cc
 
 pub loop-index-preserved : goal.loop-index-preserved
@@ -25,7 +25,7 @@ loop-index-preserved g c =
     let end = limit B c.args.end in
     let i = c.loop-index.index in
     let at = c.loop-index.place in
-    let e = c.in-ok-place.place in
+    let e = c.in_ok-place.place in
     let is : Ok e ≡ turned (in_entry i) (read i B at end) = search rules in
     let step = counted-ok read B end c.args.count i at e c.loop-index-test.true is in
     cc

@@ -9,16 +9,16 @@ loop-found-preserved g c =
     let p = c.loop-found.place in
     let lt : p < length m = grind (arith, nat_tests) in
     let is : c.in-Some.found ≡ get_or m p 0 = grind (arith, nat_tests) in
-    from_next m c.args.stream-type p c.next-place-place.result lt (λ e. c.if-found-stream-type.false (is ∙ e)) c.next-place-place.ensures ∙ c.loop-found.invariant
+    from_next m c.args.stream_type p c.next_place-place.result lt (λ e. c.if-found-stream_type.false (is ∙ e)) c.next_place-place.ensures ∙ c.loop-found.invariant
 
-pub returns-then-found-stream-type : goal.returns-then-found-stream-type
-returns-then-found-stream-type g c =
+pub returns-then-found-stream_type : goal.returns-then-found-stream_type
+returns-then-found-stream_type g c =
     let m = g.S.Source.bytes c.args.run.now in
     let p = c.loop-found.place in
     let lt : p < length m = grind (arith, nat_tests) in
     let is : c.in-Some.found ≡ get_or m p 0 = grind (arith, nat_tests) in
     record {
-      first = sym (found_here m c.args.stream-type p lt (sym is ∙ c.if-found-stream-type.true)) ∙ c.loop-found.invariant;
+      first = sym (found_here m c.args.stream_type p lt (sym is ∙ c.if-found-stream_type.true)) ∙ c.loop-found.invariant;
       inside = lt;
     }
 
@@ -27,4 +27,4 @@ returns g c =
     let m = g.S.Source.bytes c.args.run.now in
     let p = c.loop-found.place in
     let ge : length m ≤ p = grind (arith, nat_tests) in
-    record { first = sym (none-behind m c.args.stream-type (length m) p ge) ∙ c.loop-found.invariant; inside = tt }
+    record { first = sym (none-behind m c.args.stream_type (length m) p ge) ∙ c.loop-found.invariant; inside = tt }

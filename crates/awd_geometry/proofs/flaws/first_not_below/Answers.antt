@@ -2,12 +2,12 @@ use Rattle.std.proofs.Common.{◌≡◌, ◌+◌, ◌*◌, ◌<◌, ◌≤◌, l
 use Rattle.awd_geometry.proofs.Indices.{too_large, below-limit, none_left}
 use Rattle.awd_geometry.proofs.flaws.first_not_below.Goals as goal
 
-pub returns-then-spelled-at-limit : goal.returns-then-spelled-at-limit
-returns-then-spelled-at-limit g c =
+pub returns-then-spelled_at-limit : goal.returns-then-spelled_at-limit
+returns-then-spelled_at-limit g c =
     let m = g.S.Source.bytes c.args.indices.now in
     let p = 2 * c.loop-k.k in
     let h : p + 1 < length m = omega arith in
-    let at = too_large c.args.limit m p c.spelled-at.result h c.spelled-at.ensures.value (omega arith) in
+    let at = too_large c.args.limit m p c.spelled_at.result h c.spelled_at.ensures.value (omega arith) in
     record { found = sym at ∙ c.loop-k.invariant; inside = omega arith }
 
 pub loop-k-preserved : goal.loop-k-preserved
@@ -15,7 +15,7 @@ loop-k-preserved g c =
     let m = g.S.Source.bytes c.args.indices.now in
     let p = 2 * c.loop-k.k in
     let h : p + 1 < length m = omega arith in
-    below-limit c.args.limit m p c.spelled-at.result h c.spelled-at.ensures.value (2 * (c.loop-k.k + 1)) (omega arith) (omega arith) ∙ c.loop-k.invariant
+    below-limit c.args.limit m p c.spelled_at.result h c.spelled_at.ensures.value (2 * (c.loop-k.k + 1)) (omega arith) (omega arith) ∙ c.loop-k.invariant
 
 pub returns : goal.returns
 returns g c =

@@ -8,4 +8,4 @@ returns g c =
     let m = g.S.Source.bytes c.args.run.now in
     let p = c.args.place + 2 in
     let is : c.min.result ≡ min p (length m) = grind arith in
-    c.spelled-at.ensures.value ∙ ap le (part_cut m p c.min.result 4 is)
+    c.spelled_at.ensures.value ∙ ap le (part_cut m p c.min.result 4 is)

@@ -14,9 +14,9 @@ returns-in-None g c =
     let shown = c.new-run.ensures in
     let W = part (g.S.Source.bytes w.below.now) w.start w.size in
     let e : W ≡ part B at c.args.total = window-is _ B _ at _ _ (ap (λ x. g.S.Source.bytes x.now) shown.0) shown.1 shown.2 in
-    let is = c.in-ok-behind.ensures in
+    let is = c.in_ok-behind.ensures in
     record {
-      read = streams-judged (width_size c.args.width) c.args.total B W at (limit B c.args.end) c.in-ok-behind.behind e is.read is.fits.0 None c.in-None.ensures.flaw;
+      read = streams-judged (width_size c.args.width) c.args.total B W at (limit B c.args.end) c.in_ok-behind.behind e is.read is.fits.0 None c.in-None.ensures.flaw;
       fits = is.fits;
     }
 
@@ -28,8 +28,8 @@ returns-in-Some g c =
     let shown = c.new-run.ensures in
     let W = part (g.S.Source.bytes w.below.now) w.start w.size in
     let e : W ≡ part B at c.args.total = window-is _ B _ at _ _ (ap (λ x. g.S.Source.bytes x.now) shown.0) shown.1 shown.2 in
-    let is = c.in-ok-behind.ensures in
+    let is = c.in_ok-behind.ensures in
     record {
-      read = streams-judged (width_size c.args.width) c.args.total B W at (limit B c.args.end) c.in-ok-behind.behind e is.read is.fits.0 (Some c.in-Some.flaw) c.in-Some.ensures.flaw;
+      read = streams-judged (width_size c.args.width) c.args.total B W at (limit B c.args.end) c.in_ok-behind.behind e is.read is.fits.0 (Some c.in-Some.flaw) c.in-Some.ensures.flaw;
       fits = tt;
     }

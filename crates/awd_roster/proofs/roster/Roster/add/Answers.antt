@@ -3,27 +3,27 @@ use Rattle.std.proofs.lemmas.Bool.Decides.{nat_tests}
 use Rattle.awd_roster.proofs.Tables.{persistent-few, persistent-more, length-told, told-added, told-full}
 use Rattle.awd_roster.proofs.roster.Roster.add.Goals as goal
 
-pub returns-then-number-ge-MAX-BLOCKS : goal.returns-then-number-ge-MAX-BLOCKS
-returns-then-number-ge-MAX-BLOCKS c =
+pub returns-then-number-ge-MAX_BLOCKS : goal.returns-then-number-ge-MAX_BLOCKS
+returns-then-number-ge-MAX_BLOCKS c =
     let x = c.args.self.now in
     let h : x.taken ≤ length x.records = omega arith in
     told-full x.records x.taken h c.args.record (omega arith)
 
-pub overflow-add-self-then-record-ne0 : goal.overflow-add-self-then-record-ne0
-overflow-add-self-then-record-ne0 c =
+pub overflow_add-self-then-record-ne0 : goal.overflow_add-self-then-record-ne0
+overflow_add-self-then-record-ne0 c =
     let x = c.args.self.now in
     let h : x.taken ≤ length x.records = omega arith in
     omega (arith, x.ids, x.room, persistent-few (take x.taken x.records), length-told x.records x.taken h)
 
-pub invariant-of-self : goal.invariant-of-self
-invariant-of-self c =
+pub invariant_of-self : goal.invariant_of-self
+invariant_of-self c =
     let x = c.args.self.now in
     let h : x.taken < length x.records = omega arith in
     let p = persistent-more x.records x.taken h c.args.record in
     (length-set x.records x.taken c.args.record ∙ x.table, (omega arith, (grind (arith, nat_tests), tt)))
 
-pub invariant-of-self-else-record-ne0 : goal.invariant-of-self-else-record-ne0
-invariant-of-self-else-record-ne0 c =
+pub invariant_of-self-else-record-ne0 : goal.invariant_of-self-else-record-ne0
+invariant_of-self-else-record-ne0 c =
     let x = c.args.self.now in
     let h : x.taken < length x.records = omega arith in
     let p = persistent-more x.records x.taken h c.args.record in
