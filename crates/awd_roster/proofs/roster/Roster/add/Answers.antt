@@ -20,14 +20,14 @@ invariant_of-self c =
     let x = c.args.self.now in
     let h : x.taken < length x.records = omega arith in
     let p = persistent-more x.records x.taken h c.args.record in
-    (length-set x.records x.taken c.args.record ∙ x.table, (omega arith, (grind (arith, nat_tests), tt)))
+    record { table = length-set x.records x.taken c.args.record ∙ x.table; room = omega arith; ids = grind (arith, nat_tests) }
 
 pub invariant_of-self-else-record-ne0 : goal.invariant_of-self-else-record-ne0
 invariant_of-self-else-record-ne0 c =
     let x = c.args.self.now in
     let h : x.taken < length x.records = omega arith in
     let p = persistent-more x.records x.taken h c.args.record in
-    (length-set x.records x.taken c.args.record ∙ x.table, (omega arith, (grind (arith, nat_tests), tt)))
+    record { table = length-set x.records x.taken c.args.record ∙ x.table; room = omega arith; ids = grind (arith, nat_tests) }
 
 pub returns-then-record-ne0 : goal.returns-then-record-ne0
 returns-then-record-ne0 c =

@@ -16,7 +16,7 @@ pub loop-i-preserved : goal.loop-i-preserved
 loop-i-preserved c = front-more c.args.run.held.now c.args.list.now c.loop-i.i c.loop-i.invariant (omega arith) (omega arith)
 
 pub invariant_of-self : goal.invariant_of-self
-invariant_of-self c = (
-  front-all c.args.run.held.now c.args.list.now c.loop-i.i c.loop-i.invariant (omega arith) (omega arith),
-  (omega arith, tt),
-)
+invariant_of-self c = record {
+  inside = front-all c.args.run.held.now c.args.list.now c.loop-i.i c.loop-i.invariant (omega arith) (omega arith);
+  enough = omega arith;
+}
