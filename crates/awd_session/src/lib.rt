@@ -22,7 +22,7 @@ pub struct Session<S: Source> {
 impl<S: Source> Session<S> {
     // A session that has not opened its document yet.
     pub fn new(source: S) -> Session<S>
-        ensures state { view bytes result ≡ fresh (bytes source) }
+        ensures state { view S.Source.bytes result ≡ fresh (S.Source.bytes source) }
         ensures source { result.source ≡ source }
     {
         Session {
@@ -33,9 +33,9 @@ impl<S: Source> Session<S> {
 
     // Judges the header and opens the document. A refusal leaves the session as it was.
     pub fn open(&mut self) -> Result<Header, Fault>
-        ensures answer { answer result ≡ open_answer (view bytes self.old) }
-        ensures state { view bytes self.new ≡ after_open (view bytes self.old) }
-        ensures right { self.old.opened ≡ false → Right (bytes self.old.source) result }
+        ensures answer { answer result ≡ open_answer (view S.Source.bytes self.old) }
+        ensures state { view S.Source.bytes self.new ≡ after_open (view S.Source.bytes self.old) }
+        ensures right { self.old.opened ≡ false → Right (S.Source.bytes self.old.source) result }
         ensures same { OnErr result (self.new ≡ self.old) }
         ensures source { self.new.source ≡ self.old.source }
     {
@@ -49,7 +49,7 @@ impl<S: Source> Session<S> {
 
     // What the header says, once the document is open.
     pub fn header(&self) -> Option<Header>
-        ensures { result ≡ header_answer (view bytes self.now) }
+        ensures { result ≡ header_answer (view S.Source.bytes self.now) }
     {
         if self.opened {
             Some(header_of(&self.source))
