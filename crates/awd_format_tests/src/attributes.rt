@@ -19,7 +19,7 @@ fn walk(rt: HostRuntime) -> Result<(), Fail> {
         return Ok(());
     };
     assert_eq!(rt; (a.namespace, a.value_type.number()), (1, 2));
-    assert!(rt; a.key == b"ab");
+    assert!(rt; a.key == b"ab".as_slice());
     let Value::Number(number) = a.value else {
         assert!(rt; false);
         return Ok(());
@@ -35,13 +35,13 @@ fn walk(rt: HostRuntime) -> Result<(), Fail> {
         assert!(rt; false);
         return Ok(());
     };
-    assert!(rt; text == b"hi");
+    assert!(rt; text == b"hi".as_slice());
     let Ok(Some(c)) = reader.next() else {
         assert!(rt; false);
         return Ok(());
     };
     assert_eq!(rt; (c.namespace, c.value_type.number()), (2, 32));
-    assert!(rt; c.key == b"k");
+    assert!(rt; c.key == b"k".as_slice());
     let Value::Raw(raw) = c.value else {
         assert!(rt; false);
         return Ok(());
