@@ -5,7 +5,7 @@ The reader below is by the same authors and from the same rules (docs/FORMAT.md 
 rule that was misread. Both are given a small list damaged at every byte and cut at every length, attributes of every type with
 sizes that suit and others, and random lists, sound and damaged; each must write the same.
 
-Usage: tests/attributes.py target/bin/awdattr
+Usage: tests/attributes.py crates/awdattr/out/awdattr
 """
 
 import random

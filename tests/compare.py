@@ -5,7 +5,7 @@ The reader below is by the same authors and from the same rules (docs/FORMAT.md 
 program and not a rule that was misread. Both are given sound documents, every value of every header byte, cut and
 lengthened documents and random ones; each must write the same.
 
-Usage: tests/compare.py target/bin/awdlist
+Usage: tests/compare.py crates/awdlist/out/awdlist
 """
 
 import random

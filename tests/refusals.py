@@ -6,7 +6,7 @@ all: memory written while a part of it is in use, a session reached from outside
 edit has the lines 'file:', 'old:' (standing once in that file), 'new:' and 'code:', the name of the error that the
 compiler must give. The edits are made in a copy of the repository, so that nothing here changes.
 
-Usage: tests/refusals.py, after `rt check` of the crates that have such edits.
+Usage: tests/refusals.py, after `rt check` in the crates that have such edits.
 """
 
 import pathlib
@@ -31,7 +31,7 @@ def refused(copy, crate, edit):
     if before.count(edit["old"]) != 1:
         return False
     source.write_text(before.replace(edit["old"], edit["new"]))
-    run = subprocess.run(["rt", "dev", crate], cwd=copy, capture_output=True, text=True, errors="replace")
+    run = subprocess.run(["rt", "check"], cwd=copy / "crates" / crate, capture_output=True, text=True, errors="replace")
     source.write_text(before)
     return run.returncode != 0 and f"error[{edit['code']}]" in run.stdout + run.stderr
 

@@ -11,7 +11,7 @@ import pathlib
 import random
 
 import documents as make
-from compare import SEED, Tally
+from compare_blocks import SEED, Tally
 from documents import block, document, pack, user
 from reader import Fault, Record, blocks, listing, read_header
 
