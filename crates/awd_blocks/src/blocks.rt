@@ -28,6 +28,7 @@ pub struct Block {
 }
 
 // The place behind a body of namespace 0 that has its holder for itself; one of a kind that is not read is carried.
+#[tactic(auto, unfolding(crate::specs::Blocks::kind_body))]
 fn kind_body_at<S: Source, E: Earlier>(
     source: &S,
     earlier: &E,

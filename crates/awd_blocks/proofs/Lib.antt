@@ -1,0 +1,4 @@
+pub mod Headers
+pub mod Bodies
+pub mod Whole
+pub mod Rows
