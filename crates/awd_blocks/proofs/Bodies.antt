@@ -1,7 +1,7 @@
 -- No run of a body has an empty entry, whatever the header says of it.
 use Rattle.std.proofs.Common.{ℕ, eqb, List}
 use Rattle.std.proofs.lemmas.Bool.{cond_both}
-use Rattle.awd_format.specs.Shapes.{bytes, Filled}
+use Rattle.awd_format.specs.Shapes.{Filled}
 use Rattle.awd_header.specs.Widths.{Sizes}
 use Rattle.awd_roster.specs.declared.record.Record.{Record}
 use Rattle.awd_bodies.specs.Filled.{container-filled, mesh-filled, light-filled, picker-filled, geometry-filled, skeleton-filled}

@@ -1,5 +1,5 @@
 -- A block is read exactly, or refused with its first fault; none begins another, and none is empty.
-use Rattle.std.proofs.Common.{◌≡◌, ℕ, ◌+◌, ◌<◌, ◌≤◌, cond, eqb, leb, ◌⊎◌, List, [], length, IfErr, Ok, Err, Result, sym, ap, refl, subst, inl, inr, arith}
+use Rattle.std.proofs.Common.{◌≡◌, ℕ, ◌+◌, ◌<◌, ◌≤◌, eqb, leb, ◌⊎◌, List, [], length, IfErr, Ok, Err, Result, sym, ap, refl, subst, inl, inr, arith}
 use Rattle.std.proofs.lemmas.Bool.{cond_both, eqb-true, eqb-false, leb-true, leb-false}
 use Rattle.std.proofs.lemmas.Result.{IfErr-weaker}
 use Rattle.awd_fault.specs.declared.Cause.TheVariants.{BytesLeftOver}
@@ -18,7 +18,7 @@ use Rattle.awd_format.proofs.FirstFaults.{shape-first}
 use Rattle.awd_header.specs.Widths.{widths_of}
 use Rattle.awd_roster.specs.declared.record.Record.{Record}
 use Rattle.awd_blocks.specs.Heads.{namespace_at, kind_at, flags_at, size_at, body_at, block_header}
-use Rattle.awd_blocks.specs.Blocks.{body_shape, LawfulBlock, in_header, filled_to, block_at, Announced, BlockFaultOf}
+use Rattle.awd_blocks.specs.Blocks.{body_shape, LawfulBlock, in_header, filled_to, block_at, BlockFaultOf}
 use Rattle.awd_blocks.proofs.Headers.{header-length, size_same, shape_same}
 use Rattle.awd_blocks.proofs.Bodies.{header-filled, body-filled}
 
@@ -89,7 +89,7 @@ module _ (flags : ℕ) (before : List Record) where
 
   module _ (B : List ℕ) (at : ℕ) (h : at ≤ length B) where
     -- the body behind a header that stands there
-    pub behind-reads : (head : List ℕ) → SetOf (block_header before) head → Stands B at (length B) head
+    behind-reads : (head : List ℕ) → SetOf (block_header before) head → Stands B at (length B) head
         → Reads (Sized (size_at head 0) (body_shape flags before head 0)) B (at + length head) (length B) (body_in (body_shape flags before B at) B (at + length head) (length B) (size_at B at))
     behind-reads head p s =
         let l = header-length before head p in
