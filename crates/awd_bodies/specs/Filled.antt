@@ -5,8 +5,8 @@ use Rattle.awd_format.proofs.SetLaws.{filled-then}
 use Rattle.awd_attributes.specs.Filled.{properties-filled, user-list-filled}
 use Rattle.awd_roster.specs.declared.record.Record.{Record}
 use Rattle.awd_roster.specs.declared.record.Target.{Target}
-use Rattle.awd_roster.specs.declared.record.Target.TheVariants.{Parent, Geometry, Material, Light}
-use Rattle.awd_bodies.specs.Fields.{address_to, addresses, numbers, matrix, lists}
+use Rattle.awd_roster.specs.declared.record.Target.TheVariants.{Material, Light}
+use Rattle.awd_bodies.specs.Fields.{address_to, addresses, numbers, lists}
 use Rattle.awd_bodies.specs.Scene.{scene_head, container, mesh, light, picker}
 use Rattle.awd_bodies.specs.Groups.{group, geometry}
 use Rattle.awd_bodies.specs.Skeletons.{joint, skeleton}

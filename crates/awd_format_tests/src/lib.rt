@@ -2,7 +2,6 @@
 // A crate of its own, since a crate with tests is proved twice.
 #![tactic(auto)]
 
-
 #[cfg(test)]
 mod attributes;
 #[cfg(test)]

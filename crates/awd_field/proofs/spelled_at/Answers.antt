@@ -1,4 +1,4 @@
-use Rattle.std.proofs.Common.{◌≡◌, ◌+◌, ◌-◌, ◌≤◌, length, ◌∙◌, arith}
+use Rattle.std.proofs.Common.{◌-◌, ◌≤◌, ◌∙◌, arith}
 use Rattle.awd_field.proofs.Numbers.{cut, below-cut}
 use Rattle.awd_field.proofs.spelled_at.Goals as goal
 

@@ -1,4 +1,4 @@
-use Rattle.std.proofs.Common.{◌≡◌, ◌+◌, ◌*◌, ◌<◌, ◌≤◌, length, sym, ◌∙◌, arith}
+use Rattle.std.proofs.Common.{◌+◌, ◌*◌, ◌<◌, ◌≤◌, length, sym, ◌∙◌, arith}
 use Rattle.awd_geometry.proofs.Indices.{too_large, below-limit, none_left}
 use Rattle.awd_geometry.proofs.flaws.first_not_below.Goals as goal
 

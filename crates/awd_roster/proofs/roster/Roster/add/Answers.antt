@@ -1,4 +1,4 @@
-use Rattle.std.proofs.Common.{◌<◌, ◌≤◌, length, take, ◌∙◌, arith, length-set, rules}
+use Rattle.std.proofs.Common.{◌<◌, ◌≤◌, length, take, ◌∙◌, arith, length-set}
 use Rattle.std.proofs.lemmas.Bool.Decides.{nat_tests}
 use Rattle.awd_roster.proofs.Tables.{persistent-few, persistent-more, length-told, told-added, told-full}
 use Rattle.awd_roster.proofs.roster.Roster.add.Goals as goal

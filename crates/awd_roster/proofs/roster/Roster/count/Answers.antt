@@ -1,4 +1,4 @@
-use Rattle.std.proofs.Common.{◌≤◌, length, sym, arith, rules}
+use Rattle.std.proofs.Common.{◌≤◌, length, sym, arith}
 use Rattle.awd_roster.proofs.Tables.{length-told}
 use Rattle.awd_roster.proofs.roster.Roster.count.Goals as goal
 

@@ -1,4 +1,4 @@
-use Rattle.std.proofs.Common.{◌≤◌, length, arith, rules}
+use Rattle.std.proofs.Common.{◌≤◌, length, arith}
 use Rattle.std.proofs.lemmas.Bool.Decides.{nat_tests}
 use Rattle.awd_roster.proofs.Tables.{named_more, named-all}
 use Rattle.awd_roster.proofs.roster.Roster.names.Goals as goal

@@ -1,4 +1,4 @@
-use Rattle.std.proofs.Common.{◌≤◌, length, arith, rules}
+use Rattle.std.proofs.Common.{◌≤◌, length, arith}
 use Rattle.awd_roster.proofs.Tables.{told-there, told-beyond}
 use Rattle.awd_roster.proofs.roster.Roster.record.Goals as goal
 
