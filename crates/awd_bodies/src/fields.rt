@@ -1,9 +1,9 @@
 // What several bodies have: addresses, matrices, and the two lists at the end.
-ghost use Rattle.std.specs.Prelude.{◌≡◌, ◌+◌, ◌*◌, ◌<◌, ◌≤◌, length, IfOk};
+ghost use Rattle.std.specs.Prelude.{◌≡◌, ◌+◌, ◌<◌, ◌≤◌, length, IfOk};
 ghost use Rattle.awd_field.specs.Fields.{limit};
 ghost use Rattle.awd_format.specs.Shapes.{SetOf, read_of, entry_of};
 ghost use Rattle.awd_header.specs.Widths.{width_size};
-ghost use Rattle.awd_bodies.specs.Fields.{address_to, addresses, numbers, matrix, lists};
+ghost use Rattle.awd_bodies.specs.Fields.{address_to, addresses, matrix, lists};
 ghost use Rattle.awd_format.proofs.ShapeLaws.{shape-kind};
 ghost use Rattle.awd_bodies.specs.Filled.{address-filled};
 

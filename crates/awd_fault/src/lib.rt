@@ -7,7 +7,6 @@ ghost use Rattle.awd_fault.specs.Faults.{cause_number, layer_number, report, in_
 ghost use Rattle.awd_fault.specs.Texts.{cause_text};
 ghost use Rattle.std.specs.Cmp.Rules.{comparing};
 ghost use Rattle.std.proofs.Common.{rules};
-ghost use Rattle.std.specs.Cmp as Keys;
 
 use std::error::Error;
 use std::fmt;

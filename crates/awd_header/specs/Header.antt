@@ -1,7 +1,7 @@
 -- The document header: what its bytes say, and its rules in the order in which they are judged. Assumes nothing.
 use Rattle.std.specs.Prelude.{◌≡◌, ℕ, ◌+◌, ◌/◌, ◌%◌, ◌^◌, ◌≤◌, Bool, true, false, cond, ◌||◌, ◌⊎◌, List, [], ◌∷◌, ◌++◌, length, take, IfErr, Ok, Err, codes, Result, MatchResult, ◌==◌, nat_le, slice_index, slice_index_or}
 use Rattle.std.specs.Result.{result_and}
-use Rattle.std.specs.List.{AllByRecursion as All}
+use Rattle.std.specs.List.{AllByRecursion}
 use Rattle.awd_fault.specs.declared.Fault.{Fault}
 use Rattle.awd_fault.specs.Faults.{Report, report, in_header}
 use Rattle.awd_source.specs.Bytes.{part, le}
@@ -83,7 +83,7 @@ pub record Lawful (b : List ℕ) : Type 0 where
   pub body : (streaming b ≡ true) ⊎ (12 + body_length b ≡ length b)
 
 abbrev pub AllKept : List Rule → Type 0
-AllKept rs = All (λ r. r.kept ≡ true) rs
+AllKept rs = AllByRecursion (λ r. r.kept ≡ true) rs
 
 -- a fault is that of the first broken rule: those before it are kept, and it is not
 pub record FirstBroken (rs : List Rule) (f : Report) : Type 0 where

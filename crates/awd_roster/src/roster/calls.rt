@@ -1,9 +1,9 @@
 // What a roster answers.
-ghost use Rattle.std.specs.Prelude.{◌≡◌, ℕ, ◌≤◌, Bool, List, [], length};
+ghost use Rattle.std.specs.Prelude.{◌≡◌, List, [], length};
 ghost use Rattle.std.specs.List.{slice_get};
 ghost use Rattle.awd_roster.specs.declared.record.Record.{Record};
 ghost use Rattle.awd_roster.specs.Addresses.{named, lawful_address};
-ghost use Rattle.awd_roster.specs.Lookups.{number_from, number_of, path_of};
+ghost use Rattle.awd_roster.specs.Lookups.{number_of, path_of};
 ghost use Rattle.awd_roster.specs.Sequence.{in_sequence};
 ghost use Rattle.awd_roster.specs.Table.{told, added};
 
