@@ -2,7 +2,7 @@
 // This crate knows nothing of bytes, shapes or sessions.
 #![tactic(auto)]
 
-ghost use Rattle.std.specs.Prelude.{◌≡◌};
+ghost use Rattle.std.specs.Prelude.{◌≡◌, true};
 ghost use Rattle.awd_fault.specs.Faults.{report};
 ghost use Rattle.awd_block_fault.specs.Faults.{in_entry, field_of, in_block};
 ghost use Rattle.awd_block_fault.specs.declared.BlockFault.TheVariants.{Header, Field, Entry};
@@ -114,3 +114,9 @@ impl BlockFault {
         }
     }
 }
+
+// `==` holds exactly for one and the same fault. Returns nothing; that it is proved is what counts.
+pub fn equal_faults()
+    ensures equal { (x y : BlockFault) → ⟦<BlockFault as PartialEq>⟧.eq x y ≡ true → x ≡ y }
+    ensures same { (x : BlockFault) → ⟦<BlockFault as PartialEq>⟧.eq x x ≡ true }
+{}

@@ -1,4 +1,4 @@
-// A kind of entry of a caller's own: properties and a user list. Its law takes a line (proofs/sheets), and the runs take it as they
+// A kind of entry of a caller's own: properties and a user list. Its law takes a line (`lawful`), and the runs take it as they
 // are. A fault in an attribute passes up through attribute, list, sheet and run by `?`, and has the sheet's index in the end.
 ghost use Rattle.std.specs.Prelude.{◌≡◌};
 ghost use Rattle.awd_field.specs.Fields.{limit};

@@ -2,9 +2,10 @@
 // This crate knows nothing of bytes, sources or sessions.
 #![tactic(auto)]
 
-ghost use Rattle.std.specs.Prelude.{◌≡◌, Some, IsTrue, ◌↔◌, ◌==◌};
+ghost use Rattle.std.specs.Prelude.{◌≡◌, true, Some, IsTrue, ◌↔◌, ◌==◌};
 ghost use Rattle.awd_fault.specs.Faults.{cause_number, layer_number, report, in_header, of_call};
 ghost use Rattle.awd_fault.specs.Texts.{cause_text};
+ghost use Rattle.awd_fault.specs.Laws.{NumberLaws};
 ghost use Rattle.std.specs.Cmp.Rules.{comparing};
 ghost use Rattle.std.proofs.Common.{rules};
 
@@ -196,3 +197,11 @@ impl fmt::Display for Fault {
 }
 
 impl Error for Fault {}
+
+// Numbers tell causes, layers and faults apart, and `==` holds exactly for one and the same fault. Returns nothing; that it is
+// proved is what counts.
+pub fn number_laws()
+    ensures numbers { NumberLaws }
+    ensures equal { (x y : Fault) → ⟦<Fault as PartialEq>⟧.eq x y ≡ true → x ≡ y }
+    ensures same { (x : Fault) → ⟦<Fault as PartialEq>⟧.eq x x ≡ true }
+{}
