@@ -5,7 +5,7 @@ The reader (reader.py) is by the same authors and from the same rules, so it cat
 rule that was misread. Both are given lawful documents of every kind and width, documents aimed at each refusal, and
 damaged ones (documents.py); each must write the same. Each outcome must be met.
 
-Usage: tests/compare.py target/bin/awdlist
+Usage: tests/compare_blocks.py crates/awdlist/out/awdlist
 """
 
 import collections
