@@ -1,9 +1,9 @@
 -- What `==` finds equal is the same.
 use Rattle.std.proofs.Common.{◌≡◌, true, ◌&&◌, eqb, ap, ◌∙◌}
-use Rattle.std.proofs.lemmas.Bool.{eqb-true}
+use Rattle.std.proofs.lemmas.Bool.{eqb-true, and_parts}
 use Rattle.std.specs.Prelude.{◌==◌}
 use Rattle.awd_fault.specs.Faults.{cause_number}
-use Rattle.awd_fault.proofs.Numbers.{one_cause, both}
+use Rattle.awd_fault.proofs.Numbers.{one_cause}
 use Rattle.awd_block_fault.specs.declared.FieldFault.{FieldFault}
 use Rattle.awd_block_fault.specs.declared.EntryFault.{EntryFault}
 use Rattle.awd_block_fault.specs.declared.BlockFault.{BlockFault}
@@ -13,12 +13,12 @@ use Rattle.awd_block_fault.specs.contracts.BlockFaultPartialEq.TheImpl.{ghosts}
 
 same-field : (a b : FieldFault) → ((cause_number a.cause == cause_number b.cause) && eqb a.place b.place) ≡ true → a ≡ b
 same-field a b e =
-    let w = both e in
+    let w = and_parts _ _ e in
     ap (λ c. fault c a.place) (one_cause a.cause b.cause (eqb-true (cause_number a.cause) (cause_number b.cause) w.0)) ∙ ap (λ p. fault b.cause p) (eqb-true a.place b.place w.1)
 
 same-entry : (a b : EntryFault) → (eqb a.index b.index && ((cause_number a.field.cause == cause_number b.field.cause) && eqb a.field.place b.field.place)) ≡ true → a ≡ b
 same-entry a b e =
-    let w = both e in
+    let w = and_parts _ _ e in
     ap (λ i. in_entry i a.field) (eqb-true a.index b.index w.0) ∙ ap (λ f. in_entry b.index f) (same-field a.field b.field w.1)
 
 pub equal_fault : (x y : BlockFault) → ghosts.eq x y ≡ true → x ≡ y

@@ -1,12 +1,8 @@
 -- Which block has an ID, and how far a block is from the root. Assumes nothing.
 use Rattle.std.specs.Prelude.{◌≡◌, ℕ, zero, suc, ◌+◌, cond, List, [], ◌∷◌, Some, None, Option, ◌==◌}
 use Rattle.std.specs.List.{slice_get}
+use Rattle.std.specs.Option.{option_and_then}
 use Rattle.awd_roster.specs.declared.record.Record.{Record}
-
--- on from a value that is there
-abbrev pub and_then : {A B : Type 0} → Option A → (A → Option B) → Option B
-and_then None next = None
-and_then (Some a) next = next a
 
 -- the number of the first block with an ID, the first of these blocks being number i
 abbrev pub number_from : ℕ → ℕ → List Record → Option ℕ
@@ -19,14 +15,14 @@ number_of rs id = cond (id == 0) None (number_from id 0 rs)
 
 -- the address of a block's parent
 abbrev pub parent_of : List Record → ℕ → Option ℕ
-parent_of rs number = and_then (slice_get rs number) (λ r. r.parent)
+parent_of rs number = option_and_then (λ r. r.parent) (slice_get rs number)
 
 -- up from a block by at most n addresses, when so many parents were passed already
 abbrev pub climb : List Record → ℕ → ℕ → ℕ → Option ℕ
 climb rs passed zero number = None
 climb rs passed (suc n) number =
-    and_then (parent_of rs number) (λ address.
-    cond (address == 0) (Some passed) (and_then (number_of rs address) (λ parent. climb rs (passed + 1) n parent)))
+    option_and_then (λ address. cond (address == 0) (Some passed) (option_and_then (λ parent. climb rs (passed + 1) n parent) (number_of rs address)))
+    (parent_of rs number)
 
 -- the path of a block: how many parents are passed up to address 0. They come before it, so they are at most as many as its number says.
 abbrev pub path_of : List Record → ℕ → Option ℕ

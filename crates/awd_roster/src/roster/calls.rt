@@ -1,9 +1,9 @@
 // What a roster answers.
-ghost use Rattle.std.specs.Prelude.{◌≡◌, List, [], length};
+ghost use Rattle.std.specs.Prelude.{◌≡◌, List, [], length, IfSome};
 ghost use Rattle.std.specs.List.{slice_get};
 ghost use Rattle.awd_roster.specs.declared.record.Record.{Record};
 ghost use Rattle.awd_roster.specs.Addresses.{named, lawful_address};
-ghost use Rattle.awd_roster.specs.Lookups.{number_of, path_of};
+ghost use Rattle.awd_roster.specs.Lookups.{number_of, path_of, Climbs};
 ghost use Rattle.awd_roster.specs.Sequence.{in_sequence};
 ghost use Rattle.awd_roster.specs.Table.{told, added};
 
@@ -108,9 +108,10 @@ impl Roster {
         false
     }
 
-    // How many parents lie between a block and the root.
+    // How many parents lie between a block and the root; none where its parents do not lead there.
     pub fn path(&self, number: u64) -> Option<u64>
-        ensures { result ≡ path_of (told self.now) number }
+        ensures value { result ≡ path_of (told self.now) number }
+        ensures climbs { IfSome result (λ n. Climbs (told self.now) number n) }
     {
         let mut at = number;
         for passed in 0..=number {
