@@ -356,24 +356,24 @@ def picker(cursor, around):
     return None, name
 
 
-def geometry(cursor, around):
-    """A name, a count, properties, so many sub-geometries and a user list."""
+def group(cursor, entry):
+    """A name, a count, properties, so many entries and a user list."""
     name = text(cursor)
     count = cursor.number(2)
     properties(cursor)
-    counted_run(cursor, count, lambda at, _index: sub_geometry(at, around.widths.geometry))
+    counted_run(cursor, count, entry)
     user_list(cursor)
     return None, name
+
+
+def geometry(cursor, around):
+    """A group of sub-geometries."""
+    return group(cursor, lambda at, _index: sub_geometry(at, around.widths.geometry))
 
 
 def skeleton(cursor, around):
-    """A name, a count, properties, so many joints and a user list."""
-    name = text(cursor)
-    count = cursor.number(2)
-    properties(cursor)
-    counted_run(cursor, count, lambda at, index: joint(at, index, around))
-    user_list(cursor)
-    return None, name
+    """A group of joints."""
+    return group(cursor, lambda at, index: joint(at, index, around))
 
 
 def joint(cursor, index, around):
