@@ -1,10 +1,8 @@
 -- What a walk over user attributes has met, out of what the reader answers each time.
-use Rattle.std.proofs.Common.{◌≡◌, ℕ, ◌+◌, ◌<◌, ◌≤◌, Bool, true, false, cond, leb, List, [], ◌∷◌, ◌++◌, length, Some, None, Ok, Err, Result, sym, refl, ap, ◌∙◌, subst, zero-add, arith, length-append}
-use lib.Seq.{take-length}
-use Rattle.std.proofs.lemmas.Bool.{leb-true, leb-false}
+use Rattle.std.proofs.Common.{◌≡◌, ℕ, ◌+◌, Bool, true, false, cond, leb, List, ◌++◌, length, Some, Ok, Err, Result, sym, refl, ap, ◌∙◌, subst, zero-add, arith, length-append}
+use Rattle.std.proofs.lemmas.Bool.{leb-false}
 use Rattle.awd_fault.specs.declared.Fault.{Fault}
 use Rattle.awd_fault.specs.Faults.{Report, report}
-use Rattle.awd_source.specs.Bytes.{part}
 use Rattle.awd_block_fault.specs.declared.EntryFault.{EntryFault}
 use Rattle.awd_block_fault.specs.declared.FieldFault.{FieldFault}
 use Rattle.awd_block_fault.specs.declared.BlockFault.TheVariants.{Entry}
@@ -21,32 +19,11 @@ use Rattle.awd_attributes.specs.Attributes.{user}
 use Rattle.awd_attributes.specs.Reader.{Answer, ended, refusal, attribute, judged, answer_at, Tells}
 use Rattle.awd_attributes.specs.Filled.{user-filled}
 
--- the case of an answer, and its place
-abbrev case_of : Answer → ℕ
-case_of ended = 0
-case_of (refusal x) = 1
-case_of (attribute e) = 2
-
-abbrev place_of : Answer → ℕ
-place_of ended = 0
-place_of (refusal x) = 0
-place_of (attribute e) = e
-
-abbrev report_of : Report → Answer → Report
-report_of x ended = x
-report_of x (refusal y) = y
-report_of x (attribute e) = x
-
 module _ (w w' : AttributeReader) where
-  pub gave : (a : Attribute) (ans : Answer) → Tells w (Ok (Some a)) w' ans → (e : ℕ) × (ans ≡ attribute e) × (w'.part ≡ w.part) × (w'.at ≡ e) × (w'.index ≡ w.index + 1)
+  pub gave : (a : Attribute) (ans : Answer) → Tells w (Ok (Some a)) w' ans → (ans ≡ attribute w'.at) × (w'.part ≡ w.part) × (w'.index ≡ w.index + 1)
   gave a ended (p, q) = absurd (grind arith)
   gave a (refusal x) (p, q) = absurd p
-  gave a (attribute e) (p, q, r, s) = (e, refl, q, r, s)
-
-  pub gave-none : (ans : Answer) → Tells w (Ok None) w' ans → ans ≡ ended
-  gave-none ended t = refl
-  gave-none (refusal x) (p, q) = absurd p
-  gave-none (attribute e) t = absurd t.0
+  gave a (attribute e) (p, q, r, s) = (ap attribute (sym r), q, s)
 
   pub refused : (f : Fault) (ans : Answer) → Tells w (Err f) w' ans → ans ≡ refusal (report f)
   refused f ended (p, q) = absurd (grind arith)
@@ -55,26 +32,21 @@ module _ (w w' : AttributeReader) where
 
 module _ (i : ℕ) where
   attribute-is : (b : Bool) (r : Result ℕ FieldFault) (e : ℕ) → cond b ended (judged i r) ≡ attribute e → (b ≡ false) × (r ≡ Ok e)
-  attribute-is true r e is = absurd (omega (arith, ap case_of is))
-  attribute-is false (Ok p) e is = (refl, ap Ok (ap place_of is))
-  attribute-is false (Err x) e is = absurd (omega (arith, ap case_of is))
-
-  ended_is : (b : Bool) (r : Result ℕ FieldFault) → cond b ended (judged i r) ≡ ended → b ≡ true
-  ended_is true r is = refl
-  ended_is false (Ok p) is = absurd (omega (arith, ap case_of is))
-  ended_is false (Err x) is = absurd (omega (arith, ap case_of is))
+  attribute-is true r e is = absurd (cc is)
+  attribute-is false (Ok p) e is = (refl, cc is)
+  attribute-is false (Err x) e is = absurd (cc is)
 
   fault-is : (b : Bool) (r : Result ℕ FieldFault) (x : Report) → cond b ended (judged i r) ≡ refusal x → (y : FieldFault) × (r ≡ Err y) × (x ≡ in_block 0 (Entry (in_entry i y)))
-  fault-is true r x is = absurd (omega (arith, ap case_of is))
-  fault-is false (Ok p) x is = absurd (omega (arith, ap case_of is))
-  fault-is false (Err y) x is = (y, refl, sym (ap (report_of x) is))
+  fault-is true r x is = absurd (cc is)
+  fault-is false (Ok p) x is = absurd (cc is)
+  fault-is false (Err y) x is = (y, refl, cc is)
 
 module _ (B : List ℕ) where
   -- so many attributes fill the bytes as far as a place
   abbrev pub Walked : ℕ → ℕ → Type 0
   Walked at i = (m : List ℕ) × Counted (λ i. SetOf (user i)) 0 i m × Stands B 0 (length B) m × (at ≡ length m)
 
-  pub walked_more : (at i e : ℕ) → Walked at i → answer_at B at i ≡ attribute e → (at < e) × (e ≤ length B) × Walked e (i + 1)
+  pub walked_more : (at i e : ℕ) → Walked at i → answer_at B at i ≡ attribute e → Walked e (i + 1)
   walked_more at i e (m, c, s, is) ans =
       let w = attribute-is i (leb (length B) at) (entry_of (user i) B at (length B)) e ans in
       let more = leb-false (length B) at w.0 in
@@ -82,17 +54,7 @@ module _ (B : List ℕ) where
       let v = subst (Reads (SetOf (user i)) B at (length B)) w.1 (k.exact i B at (length B) (omega arith) (omega arith)) in
       let st : Stands B (0 + length m) (length B) v.0 = subst (λ p. Stands B p (length B) v.0) (is ∙ sym (zero-add (length m))) v.3 in
       let l = length-append m v.0 in
-      (longer v.0 v.2 v.1, omega (arith, v.1, v.3.fits), (m ++ v.0, counted-push (λ i. SetOf (user i)) i m v.0 c v.2, stands-more B 0 (length B) m v.0 s st, omega (arith, v.1)))
-    where
-      longer : (n : List ℕ) → SetOf (user i) n → e ≡ at + length n → at < e
-      longer [] p q = absurd ((user-filled i).0 p)
-      longer (b ∷ n) p q = omega arith
-
-  pub walked_all : (at i : ℕ) → Walked at i → answer_at B at i ≡ ended → Counted (λ i. SetOf (user i)) 0 i B
-  walked_all at i (m, c, s, is) ans =
-      let done = leb-true (length B) at (ended_is i (leb (length B) at) (entry_of (user i) B at (length B)) ans) in
-      let l : length m ≡ length B = omega (arith, s.fits) in
-      subst (Counted (λ i. SetOf (user i)) 0 i) (sym s.is ∙ ap (part B 0) l ∙ take-length B) c
+      (m ++ v.0, counted-push (λ i. SetOf (user i)) i m v.0 c v.2, stands-more B 0 (length B) m v.0 s st, omega (arith, v.1))
 
   pub walked-fault : (at i : ℕ) (x : Report) → Walked at i → answer_at B at i ≡ refusal x
       → (y : EntryFault) × (x ≡ in_block 0 (Entry y)) × FirstFault (λ i. entry_of (user i)) (λ i. SetOf (user i)) B 0 (length B) y

@@ -23,10 +23,9 @@ abbrev pub judged : ℕ → Result ℕ FieldFault → Answer
 judged i (Ok e) = attribute e
 judged i (Err x) = refusal (in_block 0 (Entry (in_entry i x)))
 
--- what fields, or none of them, say as an answer
-abbrev pub as_answer : Result (Option UserFields) Fault → Answer
-as_answer (Ok None) = ended
-as_answer (Ok (Some f)) = attribute f.value.behind
+-- what fields, or a fault, say as an answer
+abbrev pub as_answer : Result UserFields Fault → Answer
+as_answer (Ok f) = attribute f.value.behind
 as_answer (Err f) = refusal (report f)
 
 -- at the end of its part none, else the user attribute there, of index i, or its fault; places count from the part's start

@@ -5,7 +5,7 @@ ghost use Rattle.awd_value.specs.Types.{type_number};
 
 use awd_value::ValueType;
 
-// A value: the bytes of a text, raw bytes, or those of a number.
+// A value: the bytes of a text, raw bytes, or those of a number. (The type tells which as well; the case saves a caller a match on thirteen.)
 #[derive(Clone, Copy)]
 pub enum Value<'a> {
     Text(&'a [u8]),

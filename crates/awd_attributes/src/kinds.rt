@@ -1,11 +1,10 @@
 // The two kinds of attribute as entries of runs, and the lists of them.
-ghost use Rattle.std.specs.Prelude.{◌≡◌, ◌+◌, ◌≤◌, length, IfOk};
+ghost use Rattle.std.specs.Prelude.{◌≡◌, ◌+◌, ◌≤◌, IfOk};
 ghost use Rattle.std.specs.Result.{result_map_both};
+ghost use Rattle.awd_field.specs.Holders.{held, Ends};
 ghost use Rattle.awd_source.specs.Bytes.{le, part};
-ghost use Rattle.awd_field.specs.Fields.{limit};
-ghost use Rattle.awd_format.specs.Shapes.{SetOf, read_of, entry_of};
-ghost use Rattle.awd_fault.specs.declared.Cause.TheVariants.{ValueNotAllowed};
-ghost use Rattle.awd_block_fault.specs.Faults.{fault};
+ghost use Rattle.awd_format.specs.Shapes.{SetOf, entry_of};
+ghost use Rattle.awd_format.specs.Readings.{read_in, entry_in};
 ghost use Rattle.awd_attributes.specs.Parts.{FieldsOf};
 ghost use Rattle.awd_value.specs.Types.{type_number};
 ghost use Rattle.awd_attributes.specs.Attributes.{numeric, typed, user, properties, user_list};
@@ -14,7 +13,7 @@ ghost use Rattle.awd_attributes.specs.Filled.{numeric-filled, user-filled};
 
 use awd_block_fault::{BlockFault, FieldFault};
 use awd_fault::Cause;
-use awd_field::{FOUR, ONE, TWO, bytes_at, number_at};
+use awd_field::{FOUR, Holder, ONE, TWO};
 use awd_format::{EntryKind, list_at, text_at};
 use awd_source::Source;
 use awd_value::ValueType;
@@ -30,16 +29,10 @@ impl EntryKind for NumericAttribute {
 
     ghost lawful = { λ _. shape-kind numeric numeric-filled };
 
-    fn read<S: Source>(
-        &self,
-        source: &S,
-        at: u64,
-        end: u64,
-        _index: u64,
-    ) -> Result<u64, FieldFault> {
-        let _key = number_at(source, at, end, TWO)?;
-        let size = number_at(source, at + 2, end, FOUR)?;
-        bytes_at(source, at + 2 + 4, end, size)
+    fn read<S: Source>(&self, holder: &Holder<S>, at: u64, _index: u64) -> Result<u64, FieldFault> {
+        let _key = holder.number_at(at, TWO)?;
+        let size = holder.number_at(at + 2, FOUR)?;
+        holder.bytes_at(at + 2 + 4, size)
     }
 }
 
@@ -51,19 +44,19 @@ pub(crate) struct TypedValue {
 }
 
 // A typed value: its type, its size and its bytes, each judged before the next.
-fn typed_value<S: Source>(source: &S, at: u64, end: u64) -> Result<TypedValue, FieldFault>
-    ensures read { let B = S.Source.bytes source.now in result_map_both (λ v. v.behind) (λ x. x) result ≡ entry_of typed B at (limit B end) }
-    ensures parts { let B = S.Source.bytes source.now in IfOk result (λ v. (type_number v.value_type ≡ le (part B at 1)) × (v.behind ≡ at + 1 + 4 + le (part B (at + 1) 4)) × (v.behind ≤ end) × (v.behind ≤ length B)) }
+fn typed_value<S: Source>(holder: &Holder<S>, at: u64) -> Result<TypedValue, FieldFault>
+    ensures read { result_map_both (λ v. v.behind) (λ x. x) result ≡ entry_in typed holder.now at }
+    ensures parts { let B = held holder.now in IfOk result (λ v. (type_number v.value_type ≡ le (part B at 1)) × (v.behind ≡ at + 1 + 4 + le (part B (at + 1) 4)) × (v.behind ≤ holder.now.end)) }
 {
-    let number = number_at(source, at, end, ONE)?;
-    let Some(value_type) = ValueType::of(number as u8) else {
-        return Err(not_allowed(at));
+    let number = holder.number_at(at, ONE)?;
+    let Ok(value_type) = ValueType::try_from(number as u8) else {
+        return Err(FieldFault::new(Cause::ValueNotAllowed, at));
     };
-    let size = number_at(source, at + 1, end, FOUR)?;
+    let size = holder.number_at(at + 1, FOUR)?;
     if !value_type.suits(size) {
-        return Err(not_allowed(at + 1));
+        return Err(FieldFault::new(Cause::ValueNotAllowed, at + 1));
     }
-    let behind = bytes_at(source, at + 1 + 4, end, size)?;
+    let behind = holder.bytes_at(at + 1 + 4, size)?;
     Ok(TypedValue { value_type, behind })
 }
 
@@ -76,31 +69,18 @@ pub(crate) struct UserFields {
 }
 
 // The fields of a user attribute.
-pub(crate) fn user_fields<S: Source>(
-    source: &S,
-    at: u64,
-    end: u64,
-) -> Result<UserFields, FieldFault>
-    ensures read { let B = S.Source.bytes source.now in result_map_both (λ f. f.value.behind) (λ x. x) result ≡ entry_of (user 0) B at (limit B end) }
-    ensures parts { let B = S.Source.bytes source.now in IfOk result (λ f. FieldsOf B at f × (f.value.behind ≤ end) × (f.value.behind ≤ length B)) }
+pub(crate) fn user_fields<S: Source>(holder: &Holder<S>, at: u64) -> Result<UserFields, FieldFault>
+    ensures read { result_map_both (λ f. f.value.behind) (λ x. x) result ≡ entry_in (user 0) holder.now at }
+    ensures parts { IfOk result (λ f. FieldsOf (held holder.now) at f × (f.value.behind ≤ holder.now.end)) }
 {
-    let namespace = number_at(source, at, end, ONE)?;
-    let type_at = text_at(source, at + 1, end)?;
-    let value = typed_value(source, type_at, end)?;
+    let namespace = holder.number_at(at, ONE)?;
+    let type_at = text_at(holder, at + 1)?;
+    let value = typed_value(holder, type_at)?;
     Ok(UserFields {
         namespace: namespace as u8,
         type_at,
         value,
     })
-}
-
-fn not_allowed(place: u64) -> FieldFault
-    ensures { result ≡ fault ValueNotAllowed place }
-{
-    FieldFault {
-        cause: Cause::ValueNotAllowed,
-        place,
-    }
 }
 
 // A name for a key, and a value with its type.
@@ -114,30 +94,25 @@ impl EntryKind for UserAttribute {
 
     ghost lawful = { λ _. shape-kind user user-filled };
 
-    fn read<S: Source>(
-        &self,
-        source: &S,
-        at: u64,
-        end: u64,
-        _index: u64,
-    ) -> Result<u64, FieldFault> {
-        let fields = user_fields(source, at, end)?;
+    fn read<S: Source>(&self, holder: &Holder<S>, at: u64, _index: u64) -> Result<u64, FieldFault> {
+        let fields = user_fields(holder, at)?;
         Ok(fields.value.behind)
     }
 }
 
-// The place behind properties, which are a list of numeric attributes.
-pub fn properties_at<S: Source>(source: &S, at: u64, end: u64) -> Result<u64, BlockFault>
-    ensures read { let B = S.Source.bytes source.now in result ≡ read_of properties B at (limit B end) }
-    ensures fits { let B = S.Source.bytes source.now in IfOk result (λ e. (e ≡ at + 4 + le (part B at 4)) × (e ≤ end) × (e ≤ length B)) }
+// The place behind properties, which are a list of numeric attributes. (This and the next are calls of the one text for lists; they carry
+// the format's names, and what the names mean.)
+pub fn properties_at<S: Source>(holder: &Holder<S>, at: u64) -> Result<u64, BlockFault>
+    ensures read { result ≡ read_in properties holder.now at }
+    ensures fits { Ends (at + 4 + le (part (held holder.now) at 4)) holder.now.end result }
 {
-    list_at(source, &NumericAttribute, at, end)
+    list_at(holder, &NumericAttribute, at)
 }
 
 // The place behind a user list, which is a list of user attributes.
-pub fn user_list_at<S: Source>(source: &S, at: u64, end: u64) -> Result<u64, BlockFault>
-    ensures read { let B = S.Source.bytes source.now in result ≡ read_of user_list B at (limit B end) }
-    ensures fits { let B = S.Source.bytes source.now in IfOk result (λ e. (e ≡ at + 4 + le (part B at 4)) × (e ≤ end) × (e ≤ length B)) }
+pub fn user_list_at<S: Source>(holder: &Holder<S>, at: u64) -> Result<u64, BlockFault>
+    ensures read { result ≡ read_in user_list holder.now at }
+    ensures fits { Ends (at + 4 + le (part (held holder.now) at 4)) holder.now.end result }
 {
-    list_at(source, &UserAttribute, at, end)
+    list_at(holder, &UserAttribute, at)
 }

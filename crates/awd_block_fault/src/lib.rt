@@ -4,7 +4,7 @@
 
 ghost use Rattle.std.specs.Prelude.{◌≡◌, true};
 ghost use Rattle.awd_fault.specs.Faults.{report};
-ghost use Rattle.awd_block_fault.specs.Faults.{in_entry, field_of, in_block};
+ghost use Rattle.awd_block_fault.specs.Faults.{fault, in_entry, field_of, in_block};
 ghost use Rattle.awd_block_fault.specs.declared.BlockFault.TheVariants.{Header, Field, Entry};
 
 use awd_fault::{Cause, Fault, Layer};
@@ -38,15 +38,19 @@ pub enum BlockFault {
     Entry(EntryFault),
 }
 
-// A field's fault beside the index of the entry that was being read.
-impl From<(u64, FieldFault)> for EntryFault {
-    ghost from_gives = { λ e r. r ≡ in_entry e.0 e.1 };
+impl FieldFault {
+    // A cause at a place.
+    pub fn new(cause: Cause, place: u64) -> FieldFault
+        ensures { result ≡ fault cause place }
+    {
+        FieldFault { cause, place }
+    }
 
-    fn from(e: (u64, FieldFault)) -> EntryFault {
-        EntryFault {
-            index: e.0,
-            field: e.1,
-        }
+    // The fault in the entry of an index.
+    pub fn in_entry(self, index: u64) -> EntryFault
+        ensures { result ≡ in_entry index self }
+    {
+        EntryFault { index, field: self }
     }
 }
 
@@ -88,8 +92,7 @@ impl From<BlockFault> for FieldFault {
 
     fn from(e: BlockFault) -> FieldFault {
         match e {
-            BlockFault::Header(field) => field,
-            BlockFault::Field(field) => field,
+            BlockFault::Header(field) | BlockFault::Field(field) => field,
             BlockFault::Entry(entry) => entry.field,
         }
     }
@@ -100,14 +103,14 @@ impl BlockFault {
     pub fn in_block(self, block: u64) -> Fault
         ensures { report result ≡ in_block block self }
     {
-        let (layer, field, index) = match self {
+        let (layer, FieldFault { cause, place }, index) = match self {
             BlockFault::Header(field) => (Layer::BlockHeader, field, None),
             BlockFault::Field(field) => (Layer::BodyField, field, None),
             BlockFault::Entry(entry) => (Layer::Entry, entry.field, Some(entry.index)),
         };
         Fault {
-            cause: field.cause,
-            place: field.place,
+            cause,
+            place,
             block,
             layer,
             index,

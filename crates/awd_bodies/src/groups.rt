@@ -1,13 +1,13 @@
 // Bodies that are a group of entries, written once for any kind of entry.
 ghost use Rattle.std.specs.Prelude.{◌≡◌};
-ghost use Rattle.awd_field.specs.Fields.{limit};
-ghost use Rattle.awd_format.specs.Shapes.{read_of};
+ghost use Rattle.awd_field.specs.Holders.{held};
+ghost use Rattle.awd_format.specs.Readings.{read_in};
 ghost use Rattle.awd_header.specs.Widths.{width_size};
 ghost use Rattle.awd_bodies.specs.Groups.{geometry, group_at};
 
 use awd_attributes::{properties_at, user_list_at};
 use awd_block_fault::BlockFault;
-use awd_field::{TWO, number_at};
+use awd_field::{Holder, TWO};
 use awd_format::{EntryKind, counted, text_at};
 use awd_geometry::SubGeometry;
 use awd_header::Width;
@@ -15,28 +15,23 @@ use awd_source::Source;
 
 // The place behind a name, a count, properties, that many entries and a user list.
 pub(crate) fn group_at<S: Source, K: EntryKind>(
-    source: &S,
+    holder: &Holder<S>,
     kind: &K,
     at: u64,
-    end: u64,
 ) -> Result<u64, BlockFault>
-    ensures { let B = S.Source.bytes source.now in result ≡ group_at (K.EntryKind.reading kind.now) B at (limit B end) }
+    ensures { result ≡ group_at (K.reading kind.now) (held holder.now) at holder.now.end }
 {
-    let place = text_at(source, at, end)?;
-    let count = number_at(source, place, end, TWO)?;
-    let entries = properties_at(source, place + 2, end)?;
-    let list = counted(source, kind, entries, end, count)?;
-    user_list_at(source, list, end)
+    let place = text_at(holder, at)?;
+    let count = holder.number_at(place, TWO)?;
+    let entries = properties_at(holder, place + 2)?;
+    let list = counted(holder, kind, entries, count)?;
+    user_list_at(holder, list)
 }
 
-// The place behind the body of a geometry.
-pub fn geometry_at<S: Source>(
-    source: &S,
-    width: Width,
-    at: u64,
-    end: u64,
-) -> Result<u64, BlockFault>
-    ensures { let B = S.Source.bytes source.now in result ≡ read_of (geometry (width_size width)) B at (limit B end) }
+// The place behind the body of a geometry. (This and `skeleton_at` are calls of the one text for groups; they carry the format's names,
+// and what the names mean.)
+pub fn geometry_at<S: Source>(holder: &Holder<S>, width: Width, at: u64) -> Result<u64, BlockFault>
+    ensures { result ≡ read_in (geometry (width_size width)) holder.now at }
 {
-    group_at(source, &SubGeometry { width }, at, end)
+    group_at(holder, &SubGeometry { width }, at)
 }

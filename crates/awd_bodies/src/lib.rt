@@ -2,12 +2,13 @@
 // This crate knows nothing of block headers or sessions.
 #![tactic(auto)]
 
+mod addresses;
 mod fields;
 mod groups;
 mod scene;
 mod skeletons;
 
-pub use fields::Address;
+pub use addresses::Address;
 pub use groups::geometry_at;
-pub use scene::{container_at, light_at, mesh_at, picker_at};
+pub use scene::{Scene, picker_at};
 pub use skeletons::{Joint, skeleton_at};

@@ -1,96 +1,99 @@
 // The bodies of blocks that make up a scene.
-ghost use Rattle.std.specs.Prelude.{◌≡◌};
-ghost use Rattle.awd_field.specs.Fields.{limit};
-ghost use Rattle.awd_format.specs.Shapes.{read_of};
+ghost use Rattle.std.specs.Prelude.{◌≡◌, ◌+◌};
+ghost use Rattle.awd_field.specs.Holders.{Ends};
+ghost use Rattle.awd_format.specs.Readings.{read_in};
 ghost use Rattle.awd_header.specs.Widths.{width_size};
+ghost use Rattle.awd_bodies.specs.Fields.{address_to, addresses};
 ghost use Rattle.awd_bodies.specs.Scene.{scene_head, container, mesh, light, picker};
 
-use crate::fields::{address_at, addresses_at, lists_at, matrix_at};
+use crate::addresses::Address;
+use crate::fields::{lists_at, matrix_at};
 use awd_attributes::user_list_at;
 use awd_block_fault::{BlockFault, FieldFault};
 use awd_fault::Cause;
-use awd_field::{ONE, number_at};
+use awd_field::{Holder, ONE};
 use awd_format::text_at;
 use awd_header::Width;
 use awd_roster::{Earlier, Target};
 use awd_source::Source;
 
-// The place behind a scene head: the parent's address, a matrix and a name.
-fn scene_head_at<S: Source, E: Earlier>(
-    source: &S,
-    earlier: &E,
-    width: Width,
-    at: u64,
-    end: u64,
-) -> Result<u64, BlockFault>
-    ensures { let B = S.Source.bytes source.now in result ≡ read_of (scene_head (E.Earlier.records earlier.now) (width_size width)) B at (limit B end) }
-{
-    let matrix = address_at(source, earlier, Target::Parent, at, end)?;
-    let name = matrix_at(source, width, matrix, end)?;
-    text_at(source, name, end)
+// What the body of a scene's block is read by: what it must fit, the blocks before it, and the width of matrix cells.
+#[derive(Drop)]
+pub struct Scene<'a, S: Source, E> {
+    pub holder: &'a Holder<'a, S>,
+    pub earlier: &'a E,
+    pub width: Width,
 }
 
-// The place behind the body of a container.
-pub fn container_at<S: Source, E: Earlier>(
-    source: &S,
-    earlier: &E,
-    width: Width,
-    at: u64,
-    end: u64,
-) -> Result<u64, BlockFault>
-    ensures { let B = S.Source.bytes source.now in result ≡ read_of (container (E.Earlier.records earlier.now) (width_size width)) B at (limit B end) }
-{
-    let lists = scene_head_at(source, earlier, width, at, end)?;
-    lists_at(source, lists, end)
-}
-
-// The place behind the body of a mesh instance.
-pub fn mesh_at<S: Source, E: Earlier>(
-    source: &S,
-    earlier: &E,
-    width: Width,
-    at: u64,
-    end: u64,
-) -> Result<u64, BlockFault>
-    ensures { let B = S.Source.bytes source.now in result ≡ read_of (mesh (E.Earlier.records earlier.now) (width_size width)) B at (limit B end) }
-{
-    let geometry = scene_head_at(source, earlier, width, at, end)?;
-    let materials = address_at(source, earlier, Target::Geometry, geometry, end)?;
-    let lists = addresses_at(source, earlier, Target::Material, materials, end)?;
-    lists_at(source, lists, end)
-}
-
-// The place behind the body of a light.
-pub fn light_at<S: Source, E: Earlier>(
-    source: &S,
-    earlier: &E,
-    width: Width,
-    at: u64,
-    end: u64,
-) -> Result<u64, BlockFault>
-    ensures { let B = S.Source.bytes source.now in result ≡ read_of (light (E.Earlier.records earlier.now) (width_size width)) B at (limit B end) }
-{
-    let place = scene_head_at(source, earlier, width, at, end)?;
-    let light_type = number_at(source, place, end, ONE)?;
-    if light_type != 1 && light_type != 2 {
-        return Err(BlockFault::Field(FieldFault {
-            cause: Cause::ValueNotAllowed,
-            place,
-        }));
+impl<'a, S: Source, E: Earlier> Scene<'a, S, E> {
+    // The place behind an address that is to name one of the blocks before.
+    fn address_at(&self, target: Target, at: u64) -> Result<u64, BlockFault>
+        ensures read { result ≡ read_in (address_to target (E.records self.now.earlier.now)) self.now.holder.now at }
+        ensures fits { Ends (at + 4) self.now.holder.now.end result }
+    {
+        let earlier = self.earlier;
+        Address { earlier, target }.field_at(self.holder, at)
     }
-    lists_at(source, place + 1, end)
+
+    // The place behind a count and that many such addresses.
+    fn addresses_at(&self, target: Target, at: u64) -> Result<u64, BlockFault>
+        ensures { result ≡ read_in (addresses target (E.records self.now.earlier.now)) self.now.holder.now at }
+    {
+        let earlier = self.earlier;
+        Address { earlier, target }.list_at(self.holder, at)
+    }
+
+    // The place behind a scene head: the parent's address, a matrix and a name.
+    fn head_at(&self, at: u64) -> Result<u64, BlockFault>
+        ensures { result ≡ read_in (scene_head (E.records self.now.earlier.now) (width_size self.now.width)) self.now.holder.now at }
+    {
+        let matrix = self.address_at(Target::Parent, at)?;
+        let name = matrix_at(self.holder, self.width, matrix)?;
+        text_at(self.holder, name)
+    }
+
+    // The place behind the body of a container.
+    pub fn container_at(&self, at: u64) -> Result<u64, BlockFault>
+        ensures { result ≡ read_in (container (E.records self.now.earlier.now) (width_size self.now.width)) self.now.holder.now at }
+    {
+        let lists = self.head_at(at)?;
+        lists_at(self.holder, lists)
+    }
+
+    // The place behind the body of a mesh instance.
+    pub fn mesh_at(&self, at: u64) -> Result<u64, BlockFault>
+        ensures { result ≡ read_in (mesh (E.records self.now.earlier.now) (width_size self.now.width)) self.now.holder.now at }
+    {
+        let geometry = self.head_at(at)?;
+        let materials = self.address_at(Target::Geometry, geometry)?;
+        let lists = self.addresses_at(Target::Material, materials)?;
+        lists_at(self.holder, lists)
+    }
+
+    // The place behind the body of a light.
+    pub fn light_at(&self, at: u64) -> Result<u64, BlockFault>
+        ensures { result ≡ read_in (light (E.records self.now.earlier.now) (width_size self.now.width)) self.now.holder.now at }
+    {
+        let place = self.head_at(at)?;
+        let light_type = self.holder.number_at(place, ONE)?;
+        // no enum: the type is told to nobody, so it would have no second use
+        if !matches!(light_type, 1 | 2) {
+            Err(FieldFault::new(Cause::ValueNotAllowed, place))?;
+        }
+        lists_at(self.holder, place + 1)
+    }
 }
 
 // The place behind the body of a light picker.
 pub fn picker_at<S: Source, E: Earlier>(
-    source: &S,
+    holder: &Holder<S>,
     earlier: &E,
     at: u64,
-    end: u64,
 ) -> Result<u64, BlockFault>
-    ensures { let B = S.Source.bytes source.now in result ≡ read_of (picker (E.Earlier.records earlier.now)) B at (limit B end) }
+    ensures { result ≡ read_in (picker (E.records earlier.now)) holder.now at }
 {
-    let lights = text_at(source, at, end)?;
-    let list = addresses_at(source, earlier, Target::Light, lights, end)?;
-    user_list_at(source, list, end)
+    let target = Target::Light;
+    let lights = text_at(holder, at)?;
+    let list = Address { earlier, target }.list_at(holder, lights)?;
+    user_list_at(holder, list)
 }

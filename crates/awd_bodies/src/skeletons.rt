@@ -1,7 +1,8 @@
 // Skeletons and their joints.
-ghost use Rattle.std.specs.Prelude.{◌≡◌, ◌<◌, ◌≤◌, length, IfOk};
-ghost use Rattle.awd_field.specs.Fields.{limit};
-ghost use Rattle.awd_format.specs.Shapes.{SetOf, read_of, entry_of};
+ghost use Rattle.std.specs.Prelude.{◌≡◌, ◌<◌};
+ghost use Rattle.awd_field.specs.Holders.{Further};
+ghost use Rattle.awd_format.specs.Shapes.{SetOf, entry_of};
+ghost use Rattle.awd_format.specs.Readings.{read_in};
 ghost use Rattle.awd_header.specs.Widths.{width_size};
 ghost use Rattle.awd_bodies.specs.Skeletons.{joint_rest, joint, skeleton};
 ghost use Rattle.awd_format.proofs.ShapeLaws.{shape-kind};
@@ -11,28 +12,30 @@ use crate::fields::{lists_at, matrix_at};
 use crate::groups::group_at;
 use awd_block_fault::{BlockFault, FieldFault};
 use awd_fault::Cause;
-use awd_field::{TWO, number_at};
+use awd_field::{Holder, TWO};
 use awd_format::{EntryKind, text_at};
 use awd_header::Width;
 use awd_source::Source;
 
-// the parent of a joint that has none
+// the parent of a joint that has none; it is told to nobody, so an Option of it would have no second use
 const NO_JOINT: u64 = 65_535;
-
-// The place behind the name, the matrix and the lists of a joint.
-fn joint_rest_at<S: Source>(source: &S, width: Width, at: u64, end: u64) -> Result<u64, BlockFault>
-    ensures read { let B = S.Source.bytes source.now in result ≡ read_of (joint_rest (width_size width)) B at (limit B end) }
-    ensures fits { let B = S.Source.bytes source.now in IfOk result (λ e. (at < e) × (e ≤ end) × (e ≤ length B)) }
-{
-    let matrix = text_at(source, at, end)?;
-    let lists = matrix_at(source, width, matrix, end)?;
-    lists_at(source, lists, end)
-}
 
 // One joint, with a matrix of cells of a width.
 #[derive(Clone, Copy)]
 pub struct Joint {
     pub width: Width,
+}
+
+impl Joint {
+    // The place behind what comes after a joint's numbers: its name, its matrix and its lists.
+    fn rest_at<S: Source>(&self, holder: &Holder<S>, at: u64) -> Result<u64, BlockFault>
+        ensures read { result ≡ read_in (joint_rest (width_size self.now.width)) holder.now at }
+        ensures fits { Further at holder.now.end result }
+    {
+        let matrix = text_at(holder, at)?;
+        let lists = matrix_at(holder, self.width, matrix)?;
+        lists_at(holder, lists)
+    }
 }
 
 impl EntryKind for Joint {
@@ -42,40 +45,22 @@ impl EntryKind for Joint {
 
     ghost lawful = { λ k. shape-kind (joint (width_size k.width)) (joint-filled (width_size k.width)) };
 
-    fn read<S: Source>(
-        &self,
-        source: &S,
-        at: u64,
-        end: u64,
-        index: u64,
-    ) -> Result<u64, FieldFault> {
-        let id = number_at(source, at, end, TWO)?;
+    fn read<S: Source>(&self, holder: &Holder<S>, at: u64, index: u64) -> Result<u64, FieldFault> {
+        let id = holder.number_at(at, TWO)?;
         if id != index {
-            return Err(FieldFault {
-                cause: Cause::ValueNotAllowed,
-                place: at,
-            });
+            return Err(FieldFault::new(Cause::ValueNotAllowed, at));
         }
-        let parent = number_at(source, at + 2, end, TWO)?;
+        let parent = holder.number_at(at + 2, TWO)?;
         if parent != NO_JOINT && parent >= id {
-            return Err(FieldFault {
-                cause: Cause::ValueNotAllowed,
-                place: at + 2,
-            });
+            return Err(FieldFault::new(Cause::ValueNotAllowed, at + 2));
         }
-        let behind = joint_rest_at(source, self.width, at + 2 + 2, end)?;
-        Ok(behind)
+        Ok(self.rest_at(holder, at + 2 + 2)?)
     }
 }
 
 // The place behind the body of a skeleton.
-pub fn skeleton_at<S: Source>(
-    source: &S,
-    width: Width,
-    at: u64,
-    end: u64,
-) -> Result<u64, BlockFault>
-    ensures { let B = S.Source.bytes source.now in result ≡ read_of (skeleton (width_size width)) B at (limit B end) }
+pub fn skeleton_at<S: Source>(holder: &Holder<S>, width: Width, at: u64) -> Result<u64, BlockFault>
+    ensures { result ≡ read_in (skeleton (width_size width)) holder.now at }
 {
-    group_at(source, &Joint { width }, at, end)
+    group_at(holder, &Joint { width }, at)
 }

@@ -2,7 +2,7 @@
 // compiler's borrow checker and privacy, those in must-fail/ by the prover.
 #![tactic(auto)]
 
-ghost use Rattle.std.specs.Prelude.{◌≡◌, false, slice_index, slice_set};
+ghost use Rattle.std.specs.Prelude.{◌≡◌, None, slice_index, slice_set};
 ghost use Rattle.awd_fault.specs.Faults.{answer};
 ghost use Rattle.awd_header.specs.Header.{opening};
 
@@ -24,10 +24,7 @@ pub fn replace_second(memory: &mut [u8; 4]) -> u8
 {
     let run = Run::new(&*memory);
     let part = run.part(1, 2);
-    let old = match part {
-        Some(p) if !p.is_empty() => p[0],
-        _ => 0,
-    };
+    let old = part.and_then(|p| p.first().copied()).unwrap_or(0);
     memory[1] = 7;
     old
 }
@@ -35,8 +32,8 @@ pub fn replace_second(memory: &mut [u8; 4]) -> u8
 // Opens a document by way of a session over a session. The lower one belongs to the upper: it cannot be
 // reached from outside until the upper is closed.
 pub fn open_above<S: Source>(source: S) -> (Result<Header, Fault>, Session<S>)
-    ensures answer { answer result.0 ≡ opening (S.Source.bytes source) }
-    ensures lower { (result.1.source ≡ source) × (result.1.opened ≡ false) }
+    ensures answer { answer result.0 ≡ opening (S.bytes source) }
+    ensures lower { (result.1.source ≡ source) × (result.1.header ≡ None) }
 {
     let lower = Session::new(source);
     let mut upper = Session::new(lower);
@@ -46,10 +43,9 @@ pub fn open_above<S: Source>(source: S) -> (Result<Header, Fault>, Session<S>)
 
 // The same over a session that is only lent: it cannot be changed while the upper one reads it.
 pub fn open_over<S: Source>(lower: &mut Session<S>) -> Result<Header, Fault>
-    ensures answer { answer result ≡ opening (S.Source.bytes lower.old.source) }
+    ensures answer { answer result ≡ opening (S.bytes lower.old.source) }
     ensures same { lower.new ≡ lower.old }
 {
     let mut upper = Session::new(&*lower);
-    let opened = upper.open();
-    opened
+    upper.open()
 }

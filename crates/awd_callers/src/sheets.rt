@@ -1,8 +1,8 @@
 // A kind of entry of a caller's own: properties and a user list. Its law takes a line (`lawful`), and the runs take it as they
 // are. A fault in an attribute passes up through attribute, list, sheet and run by `?`, and has the sheet's index in the end.
 ghost use Rattle.std.specs.Prelude.{◌≡◌};
-ghost use Rattle.awd_field.specs.Fields.{limit};
-ghost use Rattle.awd_format.specs.Shapes.{SetOf, read_of, entry_of};
+ghost use Rattle.awd_format.specs.Shapes.{SetOf, entry_of};
+ghost use Rattle.awd_format.specs.Readings.{read_in};
 ghost use Rattle.awd_callers.specs.Sheets.{sheet, sheet_run};
 ghost use Rattle.awd_format.proofs.SetLaws.{filled_more};
 ghost use Rattle.awd_format.proofs.ShapeLaws.{shape-kind};
@@ -10,6 +10,7 @@ ghost use Rattle.awd_attributes.specs.Filled.{properties-filled, user-list-fille
 
 use awd_attributes::{properties_at, user_list_at};
 use awd_block_fault::{BlockFault, FieldFault};
+use awd_field::Holder;
 use awd_format::{EntryKind, counted};
 use awd_source::Source;
 
@@ -23,23 +24,15 @@ impl EntryKind for Sheet {
 
     ghost lawful = { λ _. shape-kind sheet (λ i. (filled_more _ _ properties-filled.0, (properties-filled.1, user-list-filled.1))) };
 
-    fn read<S: Source>(
-        &self,
-        source: &S,
-        at: u64,
-        end: u64,
-        _index: u64,
-    ) -> Result<u64, FieldFault> {
-        let middle = properties_at(source, at, end)?;
-        let behind = user_list_at(source, middle, end)?;
-        Ok(behind)
+    fn read<S: Source>(&self, holder: &Holder<S>, at: u64, _index: u64) -> Result<u64, FieldFault> {
+        let middle = properties_at(holder, at)?;
+        Ok(user_list_at(holder, middle)?)
     }
 }
 
 // The place behind so many sheets.
-pub fn sheets_at<S: Source>(source: &S, at: u64, end: u64, count: u64) -> Result<u64, BlockFault>
-    ensures { let B = S.Source.bytes source.now in result ≡ read_of (sheet_run count) B at (limit B end) }
+pub fn sheets_at<S: Source>(holder: &Holder<S>, at: u64, count: u64) -> Result<u64, BlockFault>
+    ensures { result ≡ read_in (sheet_run count) holder.now at }
 {
-    let behind = counted(source, &Sheet, at, end, count)?;
-    Ok(behind)
+    Ok(counted(holder, &Sheet, at, count)?)
 }

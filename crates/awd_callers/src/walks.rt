@@ -12,6 +12,7 @@ pub fn count_attributes(part: &[u8]) -> Result<u64, Fault>
     ensures first { IfErr result (λ f. FirstRefused part.now f) }
 {
     let mut reader = AttributeReader::new(part);
+    // the reader is no Iterator whose items could be counted: a fault comes again each time that it is asked, so they would never end
     let mut count: u64 = 0;
     while let Some(_) = reader.next()? {
         count += 1;

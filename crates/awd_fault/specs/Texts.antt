@@ -1,7 +1,9 @@
--- What a person reads for each cause. Assumes nothing.
-use Rattle.std.specs.Prelude.{ℕ, ◌-◌, List, [], ◌∷◌, codes, slice_index_or}
+-- What a person reads for each cause and fault. Assumes nothing.
+use Rattle.std.specs.Prelude.{ℕ, ◌-◌, List, [], ◌∷◌, ◌++◌, Option, Some, None, codes, slice_index_or}
+use Rattle.std.specs.Fmt.{decimal}
 use Rattle.awd_fault.specs.declared.Cause.{Cause}
-use Rattle.awd_fault.specs.Faults.{cause_number}
+use Rattle.awd_fault.specs.declared.Fault.{Fault}
+use Rattle.awd_fault.specs.Faults.{cause_number, layer_number}
 
 -- the causes in words, by number from 1
 abbrev pub cause_texts : List (List ℕ)
@@ -38,3 +40,14 @@ cause_texts =
 
 abbrev pub cause_text : Cause → List ℕ
 cause_text c = slice_index_or cause_texts (cause_number c - 1) []
+
+-- the entry, where there is one
+abbrev pub entry_text : Option ℕ → List ℕ
+entry_text None = []
+entry_text (Some index) = codes ", entry " ++ decimal index
+
+-- a fault for a log: the cause in words, then all that the fault holds
+abbrev pub fault_text : Fault → List ℕ
+fault_text f =
+    cause_text f.cause ++ codes " (cause " ++ decimal (cause_number f.cause) ++ codes ", place " ++ decimal f.place ++ codes ", block " ++ decimal f.block ++ codes ", layer "
+    ++ decimal (layer_number f.layer) ++ entry_text f.index ++ codes ")"

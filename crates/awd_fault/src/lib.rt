@@ -4,16 +4,14 @@
 
 ghost use Rattle.std.specs.Prelude.{◌≡◌, true, Some, IsTrue, ◌↔◌, ◌==◌};
 ghost use Rattle.awd_fault.specs.Faults.{cause_number, layer_number, report, in_header, of_call};
-ghost use Rattle.awd_fault.specs.Texts.{cause_text};
+ghost use Rattle.awd_fault.specs.Texts.{cause_text, fault_text};
 ghost use Rattle.awd_fault.specs.Laws.{NumberLaws};
-ghost use Rattle.std.specs.Cmp.Rules.{comparing};
-ghost use Rattle.std.proofs.Common.{rules};
 
 use std::error::Error;
 use std::fmt;
 
 // Why something is refused. The numbers are part of the format; a program may print them.
-#[derive(Clone, Copy, Eq, Debug)]
+#[derive(Clone, Copy, PartialEq, Eq, Debug)]
 pub enum Cause {
     AlreadyOpen = 1,
     HeaderTooShort = 2,
@@ -45,40 +43,8 @@ pub enum Cause {
     PageOutsideRun = 28,
 }
 
-// The causes in words, by number from 1.
-const CAUSE_TEXTS: [&str; 28] = [
-    "the session is open already",
-    "the document is shorter than its header of 12 bytes",
-    "the document is longer than 16777216 bytes",
-    "the document does not begin with AWD",
-    "the version is neither 2.0 nor 2.1",
-    "the document is compressed",
-    "the body length in the header is not that of the document",
-    "the session is not open",
-    "512 blocks are taken",
-    "a field, body or run does not fit what holds it",
-    "the block's ID is out of sequence",
-    "the block is compressed",
-    "the value is not allowed here",
-    "the address names no earlier block of a fitting kind",
-    "bytes are left over at the end of the body",
-    "a face names a vertex that is not there",
-    "a stream is repeated, or faces have no vertices",
-    "no block with this number is taken",
-    "the block has no such field",
-    "256 edits stand",
-    "the block has no material at this position",
-    "a matrix has cells 0 to 11 only",
-    "the content has not the width of the cell",
-    "the content is not a number",
-    "no edit stands",
-    "the buffer is shorter than the source",
-    "the length is above that of the listed pages",
-    "a listed page is not wholly inside the run",
-];
-
 impl Cause {
-    // The number that stands for the cause; no other cause has it.
+    // The number that stands for the cause; no other cause has it. (`as` takes no type parameter, so each enum has this line of its own.)
     pub fn number(self) -> u8
         ensures value { result ≡ cause_number self }
         ensures only { (other : Cause) → cause_number other ≡ result → other ≡ self }
@@ -90,21 +56,36 @@ impl Cause {
     pub fn text(self) -> &'static str
         ensures { result.now ≡ cause_text self }
     {
-        CAUSE_TEXTS[self.number() as usize - 1]
-    }
-}
-
-// Causes are equal where their numbers are, and so exactly where they are the same.
-impl PartialEq for Cause {
-    ghost eq = { λ x y. cause_number x == cause_number y };
-
-    ghost laws = { Prim.search (comparing, rules) };
-
-    fn eq(&self, other: &Cause) -> bool
-        ensures value { result ≡ (cause_number self.now == cause_number other.now) }
-        ensures decides { IsTrue result ↔ (self.now ≡ other.now) }
-    {
-        self.number() == other.number()
+        match self {
+            Cause::AlreadyOpen => "the session is open already",
+            Cause::HeaderTooShort => "the document is shorter than its header of 12 bytes",
+            Cause::DocumentTooLong => "the document is longer than 16777216 bytes",
+            Cause::WrongMagic => "the document does not begin with AWD",
+            Cause::WrongVersion => "the version is neither 2.0 nor 2.1",
+            Cause::CompressedDocument => "the document is compressed",
+            Cause::WrongBodyLength => "the body length in the header is not that of the document",
+            Cause::NotOpen => "the session is not open",
+            Cause::TooManyBlocks => "512 blocks are taken",
+            Cause::DoesNotFit => "a field, body or run does not fit what holds it",
+            Cause::IdOutOfSequence => "the block's ID is out of sequence",
+            Cause::CompressedBlock => "the block is compressed",
+            Cause::ValueNotAllowed => "the value is not allowed here",
+            Cause::AddressNotLawful => "the address names no earlier block of a fitting kind",
+            Cause::BytesLeftOver => "bytes are left over at the end of the body",
+            Cause::IndexTooLarge => "a face names a vertex that is not there",
+            Cause::StreamOutOfPlace => "a stream is repeated, or faces have no vertices",
+            Cause::NoSuchBlock => "no block with this number is taken",
+            Cause::NoSuchField => "the block has no such field",
+            Cause::TooManyEdits => "256 edits stand",
+            Cause::NoSuchMaterial => "the block has no material at this position",
+            Cause::NoSuchCell => "a matrix has cells 0 to 11 only",
+            Cause::WrongWidth => "the content has not the width of the cell",
+            Cause::NotANumber => "the content is not a number",
+            Cause::NothingToUndo => "no edit stands",
+            Cause::BufferTooShort => "the buffer is shorter than the source",
+            Cause::LengthOverPages => "the length is above that of the listed pages",
+            Cause::PageOutsideRun => "a listed page is not wholly inside the run",
+        }
     }
 }
 
@@ -127,7 +108,7 @@ pub enum Layer {
 }
 
 impl Layer {
-    // The number that stands for the layer; no other layer has it.
+    // The number that stands for the layer; no other layer has it. (`as` takes no type parameter, so each enum has this line of its own.)
     pub fn number(self) -> u8
         ensures value { result ≡ layer_number self }
         ensures only { (other : Layer) → layer_number other ≡ result → other ≡ self }
@@ -145,12 +126,13 @@ pub struct Fault {
     // the block's number, counted from 0
     pub block: u64,
     pub layer: Layer,
-    // the entry's index in the outermost run, in the layer of entries only
+    // the entry's index in the outermost run, in the layer of entries only; not inside that layer, since only enums without contents have
+    // numbers that tell their values apart
     pub index: Option<u64>,
 }
 
 impl Fault {
-    // A fault of the document header.
+    // A fault of the document header. (One text for this and the next would take four bare arguments in place of named fields.)
     pub fn in_header(cause: Cause, place: u64) -> Fault
         ensures { report result ≡ in_header (cause_number cause) place }
     {
@@ -179,29 +161,33 @@ impl Fault {
 
 // For a log: the cause in words, then all that the fault holds.
 impl fmt::Display for Fault {
+    ghost output = { λ fault. Some (fault_text fault) };
+
     fn fmt<W: fmt::Write>(&self, f: &mut fmt::Formatter<W>) -> fmt::Result {
-        let text = self.cause.text();
-        let cause = self.cause.number();
-        let place = self.place;
-        let block = self.block;
-        let layer = self.layer.number();
         write!(
             f,
-            "{text} (cause {cause}, place {place}, block {block}, layer {layer}"
+            "{} (cause {}, place {}, block {}, layer {}",
+            self.cause,
+            self.cause.number(),
+            self.place,
+            self.block,
+            self.layer.number()
         )?;
-        if let Some(index) = self.index {
-            write!(f, ", entry {index}")?;
+        match self.index {
+            Some(index) => write!(f, ", entry {index})"),
+            None => write!(f, ")"),
         }
-        write!(f, ")")
     }
 }
 
 impl Error for Fault {}
 
-// Numbers tell causes, layers and faults apart, and `==` holds exactly for one and the same fault. Returns nothing; that it is
-// proved is what counts.
+// Numbers tell causes, layers and faults apart. `==` on causes is that of their numbers, and on causes and faults it holds exactly
+// for one and the same. Returns nothing; that it is proved is what counts.
 pub fn number_laws()
     ensures numbers { NumberLaws }
+    ensures cause_value { (x y : Cause) → ⟦<Cause as PartialEq>⟧.eq x y ≡ (cause_number x == cause_number y) }
+    ensures cause_decides { (x y : Cause) → IsTrue (⟦<Cause as PartialEq>⟧.eq x y) ↔ (x ≡ y) }
     ensures equal { (x y : Fault) → ⟦<Fault as PartialEq>⟧.eq x y ≡ true → x ≡ y }
     ensures same { (x : Fault) → ⟦<Fault as PartialEq>⟧.eq x x ≡ true }
 {}

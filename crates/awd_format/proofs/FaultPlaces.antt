@@ -1,15 +1,16 @@
 -- A fault lies from the place that is read from on, and inside the holder.
-use Rattle.std.proofs.Common.{◌≡◌, ℕ, zero, suc, ◌+◌, ◌-◌, ◌≤◌, cond, eqb, leb, List, length, IfErr, Some, None, Ok, Err, Option, Result, refl, arith, length-take}
-use Rattle.std.proofs.lemmas.Bool.{cond_both, leb-true}
+use Rattle.std.proofs.Common.{◌≡◌, ℕ, zero, suc, ◌+◌, ◌-◌, ◌≤◌, cond, eqb, List, length, IfErr, Some, None, Ok, Err, Option, Result, refl, arith, length-take}
+use Rattle.std.proofs.lemmas.Bool.{cond_both}
 use Rattle.awd_source.specs.Bytes.{le, part}
 use Rattle.awd_block_fault.specs.declared.FieldFault.{FieldFault}
 use Rattle.awd_block_fault.specs.declared.EntryFault.{EntryFault}
 use Rattle.awd_block_fault.specs.declared.BlockFault.{BlockFault}
 use Rattle.awd_block_fault.specs.declared.BlockFault.TheVariants.{Field, Entry}
-use Rattle.awd_block_fault.specs.Faults.{fault, short, in_entry, field_of, on, turned}
+use Rattle.awd_block_fault.specs.Faults.{fault, in_entry, field_of, on, turned}
 use Rattle.awd_field.specs.Fields.{bytes_at}
 use Rattle.awd_format.specs.Runs.{Reading, counted_at, filling_at}
 use Rattle.awd_format.specs.Shapes.{Shape, number, bytes, counted, measured, also, sound, tested, read_of, entry_of, TestsInside}
+use Rattle.awd_format.proofs.Standing.{fit_both}
 use Rattle.awd_format.proofs.Locality.{Ahead, shape-ahead, entry-ahead}
 
 -- the field's fault inside a fault, of each kind of fault
@@ -51,7 +52,7 @@ module _ (read : Reading) (B : List ℕ) (end : ℕ)
       (λ _. placed_on (in_entry i) of_field of_entry (λ x. refl) at end (read i B at end) (λ e. filling_at read B end turns (i + 1) e) (placed i at h) (ahead i at h) (λ e _ l. placed-filling turns (i + 1) e l))
 
 placed-bytes : (at end n : ℕ) → at ≤ end → Placed of_field at end (bytes_at at end n)
-placed-bytes at end n h = cond_both (leb (at + n) end) (Ok (at + n)) (Err (short at)) (Placed of_field at end) (λ _. tt) (λ _. (omega arith, h))
+placed-bytes at end n h = fit_both at n end (at + n) (Placed of_field at end) (λ _. tt) (λ _. (omega arith, h))
 
 widen : (at stop end : ℕ) → stop ≤ end → (r : Result ℕ BlockFault) → Placed field_of at stop r → Placed field_of at end r
 widen at stop end h (Ok e) p = tt
@@ -71,11 +72,10 @@ entry-placed entry B end placed i at l = placed-turned field_of field_of of_fiel
 
 pub shape-placed : (L : Shape) → TestsInside L → (B : List ℕ) (at end : ℕ) → at ≤ end → Placed field_of at end (read_of L B at end)
 shape-placed (number width allowed cause next) t B at end h =
-    cond_both (leb (at + width) end) (Ok (le (part B at width))) (Err (short at))
+    fit_both at width end (le (part B at width))
     (λ r. Placed field_of at end (on Field r (λ v. cond (allowed v) (read_of (next v) B (at + width) end) (Err (Field (fault cause at))))))
-    (λ yes.
+    (λ fit.
     let v = le (part B at width) in
-    let fit = leb-true (at + width) end yes in
     cond_both (allowed v) (read_of (next v) B (at + width) end) (Err (Field (fault cause at))) (Placed field_of at end)
     (λ _. placed-later field_of at (at + width) end (omega arith) (read_of (next v) B (at + width) end) (shape-placed (next v) (t v) B (at + width) end fit))
     (λ _. (omega arith, h)))
@@ -85,9 +85,8 @@ shape-placed (counted n entry) t B at end h =
     placed-turned Entry of_entry field_of (λ x. refl) at end (counted_at (λ i. entry_of (entry i)) B end n 0 at)
     (placed-counted (λ i. entry_of (entry i)) B end (entry-ahead entry B end) (entry-placed entry B end (λ i p l. shape-placed (entry i) (t i) B p end l)) n 0 at h)
 shape-placed (measured n entry) t B at end h =
-    cond_both (leb (at + n) end) (Ok (at + n)) (Err (short at)) (λ r. Placed field_of at end (on Field r (λ stop. turned Entry (filling_at (λ i. entry_of (entry i)) B stop n 0 at))))
-    (λ yes.
-    let fit = leb-true (at + n) end yes in
+    fit_both at n end (at + n) (λ r. Placed field_of at end (on Field r (λ stop. turned Entry (filling_at (λ i. entry_of (entry i)) B stop n 0 at))))
+    (λ fit.
     let r = filling_at (λ i. entry_of (entry i)) B (at + n) n 0 at in
     widen at (at + n) end fit (turned Entry r) (placed-turned Entry of_entry field_of (λ x. refl) at (at + n) r
     (placed-filling (λ i. entry_of (entry i)) B (at + n) (entry-ahead entry B (at + n)) (entry-placed entry B (at + n) (λ i p l. shape-placed (entry i) (t i) B p (at + n) l)) n 0 at (omega arith))))

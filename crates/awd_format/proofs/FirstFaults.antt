@@ -1,6 +1,7 @@
 -- Reading refuses with the first fault, and with no other.
 use Rattle.std.proofs.Common.{◌≡◌, ℕ, ◌+◌, ◌-◌, ◌<◌, ◌≤◌, cond, leb, ◌⊎◌, List, [], length, IfErr, Some, None, Ok, Err, Option, Result, sym, refl, ap, ◌∙◌, subst, inl, inr, zero-add, arith}
-use Rattle.std.proofs.lemmas.Bool.{cond_both, cond-true, cond-false, leb-true, leb-false, le-leb, lt-leb}
+use Rattle.std.proofs.lemmas.Result.{IfErr-weaker}
+use Rattle.std.proofs.lemmas.Bool.{cond_both, cond-true, cond-false, le-leb, lt-leb}
 use Rattle.awd_source.specs.Bytes.{le, part}
 use Rattle.awd_block_fault.specs.declared.FieldFault.{FieldFault}
 use Rattle.awd_block_fault.specs.declared.EntryFault.{EntryFault}
@@ -12,12 +13,9 @@ use Rattle.awd_format.specs.Runs.{counted_at, filling_at}
 use Rattle.awd_format.specs.Sets.{Stands, Reads, Counted}
 use Rattle.awd_format.specs.Shapes.{Shape, number, bytes, counted, measured, also, sound, SetOf, tested, read_of, entry_of, Filled}
 use Rattle.awd_format.specs.FirstFaults.{NoRoom, Standing, Flawed, InRun, FaultOf}
+use Rattle.awd_format.proofs.Standing.{fit_both}
 use Rattle.awd_format.proofs.RunLaws.{Later, counted-later, filling-later, reads-member, counted-at-fault, filling-at-fault}
 use Rattle.awd_format.proofs.ShapeLaws.{shape-reads, shape_free, shape-kind}
-
-refused-weaker : {X Y : Type 0} (r : Result X Y) (P Q : Y → Type 0) → ((y : Y) → P y → Q y) → IfErr r P → IfErr r Q
-refused-weaker (Ok x) P Q f w = tt
-refused-weaker (Err y) P Q f w = f y w
 
 -- entries of a run, in a holder that ends at end
 module _ (entry : ℕ → Shape) (filled : (i : ℕ) → (SetOf (entry i) [] → ⊥) × Filled (entry i)) (B : List ℕ) (end : ℕ) (h : end ≤ length B) where
@@ -32,7 +30,7 @@ module _ (entry : ℕ → Shape) (filled : (i : ℕ) → (SetOf (entry i) [] →
       found (read_of (entry x.index) B (at + length m) end) (each x.index (at + length m) s.fits) err
     where
       found : (r : Result ℕ BlockFault) → IfErr r (λ z. FaultOf (entry x.index) B (at + length m) end z) → turned field_of r ≡ Err x.field → run-first more at (Entry x)
-      found (Ok e) w is = absurd (let z : ◌≡◌ {A = ℕ} 0 1 = cc in omega arith)
+      found (Ok e) w is = absurd (cc is)
       found (Err z) w is =
           let same : x.field ≡ field_of z = cc in
           record {
@@ -48,8 +46,7 @@ module _ (entry : ℕ → Shape) (filled : (i : ℕ) → (SetOf (entry i) [] →
 
 -- bytes that must fit
 room : (n at end : ℕ) → IfErr (turned Field (bytes_at at end n)) (λ x. NoRoom n at end x)
-room n at end =
-    cond_both (leb (at + n) end) (Ok (at + n)) (Err (short at)) (λ r. IfErr (turned Field r) (λ x. NoRoom n at end x)) (λ _. tt) (λ no'. (leb-false (at + n) end no', refl))
+room n at end = fit_both at n end (at + n) (λ r. IfErr (turned Field r) (λ x. NoRoom n at end x)) (λ _. tt) (λ lt. (lt, refl))
 
 -- a fault of the first part, or one behind the member that stands there
 module _ (P : List ℕ → Type 0) (F : BlockFault → Type 0) (B : List ℕ) (at end : ℕ) where
@@ -58,7 +55,7 @@ module _ (P : List ℕ → Type 0) (F : BlockFault → Type 0) (B : List ℕ) (a
       → IfErr (on (λ x. x) r f) (λ x. F x ⊎ Standing P B at end (λ m. Q m x))
   behind Q (Err x) f w reads next = inl w
   behind Q (Ok e) f w (m, is, p, s) next =
-      subst (λ e. IfErr (f e) (λ x. F x ⊎ Standing P B at end (λ m. Q m x))) (sym is) (refused-weaker (f (at + length m)) _ _ (λ x w. inr (m, p, s, w)) (next m p s))
+      subst (λ e. IfErr (f e) (λ x. F x ⊎ Standing P B at end (λ m. Q m x))) (sym is) (IfErr-weaker (f (at + length m)) _ _ (λ x w. inr (m, p, s, w)) (next m p s))
 
 flawed : (flaw : List ℕ → Option FieldFault) (B : List ℕ) (at end : ℕ) (m : List ℕ) → Stands B at end m
     → IfErr (tested at (at + length m) (flaw (part B at (at + length m - at)))) (λ x. Flawed (flaw m) at x)
@@ -72,30 +69,28 @@ flawed flaw B at end m s =
 
 pub shape-first : (L : Shape) → Filled L → (B : List ℕ) (at end : ℕ) → at ≤ end → end ≤ length B → IfErr (read_of L B at end) (λ x. FaultOf L B at end x)
 shape-first (number width allowed cause next) filled B at end l h =
-    cond_both (leb (at + width) end) (Ok (le (part B at width))) (Err (short at))
+    fit_both at width end (le (part B at width))
     (λ r. IfErr (on Field r (λ v. cond (allowed v) (read_of (next v) B (at + width) end) (Err (Field (fault cause at))))) (λ x. FaultOf (number width allowed cause next) B at end x))
-    (λ yes.
+    (λ fit.
     let v = le (part B at width) in
-    let fit = leb-true (at + width) end yes in
     cond_both (allowed v) (read_of (next v) B (at + width) end) (Err (Field (fault cause at))) (λ r. IfErr r (λ x. FaultOf (number width allowed cause next) B at end x))
-    (λ ok. refused-weaker (read_of (next v) B (at + width) end) _ _ (λ x w. inr (inr (fit, ok, w))) (shape-first (next v) (filled v) B (at + width) end fit h))
+    (λ ok. IfErr-weaker (read_of (next v) B (at + width) end) _ _ (λ x w. inr (inr (fit, ok, w))) (shape-first (next v) (filled v) B (at + width) end fit h))
     (λ bad. inr (inl (fit, bad, refl))))
-    (λ no'. inl (leb-false (at + width) end no', refl))
+    (λ lt. inl (lt, refl))
 shape-first (bytes n) filled B at end l h = room n at end
 shape-first (counted n entry) filled B at end l h =
     run-refused entry filled B end h (λ i p k. shape-first (entry i) (filled i).1 B p end k h) (λ i _. i < n) at (counted_at (λ i. entry_of (entry i)) B end n 0 at)
     (counted-later (λ i. entry_of (entry i)) (λ i. SetOf (entry i)) (shape-kind entry filled) B end h n n 0 at (omega arith) l)
 shape-first (measured n entry) filled B at end l h =
-    cond_both (leb (at + n) end) (Ok (at + n)) (Err (short at))
+    fit_both at n end (at + n)
     (λ r. IfErr (on Field r (λ stop. turned Entry (filling_at (λ i. entry_of (entry i)) B stop n 0 at))) (λ x. FaultOf (measured n entry) B at end x))
-    (λ yes.
-    let fit = leb-true (at + n) end yes in
+    (λ fit.
     let k : at + n ≤ length B = omega arith in
     let r = filling_at (λ i. entry_of (entry i)) B (at + n) n 0 at in
-    refused-weaker (turned Entry r) _ _ (λ x w. inr (fit, w))
+    IfErr-weaker (turned Entry r) _ _ (λ x w. inr (fit, w))
     (run-refused entry filled B (at + n) k (λ i p q. shape-first (entry i) (filled i).1 B p (at + n) q k) (λ _ p. p < at + n) at r
     (filling-later (λ i. entry_of (entry i)) (λ i. SetOf (entry i)) (shape-kind entry filled) B (at + n) k n 0 at (omega arith))))
-    (λ no'. inl (leb-false (at + n) end no', refl))
+    (λ lt. inl (lt, refl))
 shape-first (also a b) filled B at end l h =
     behind (SetOf a) (λ x. FaultOf a B at end x) B at end (λ m x. FaultOf b B (at + length m) end x) (read_of a B at end) (λ e. read_of b B e end)
     (shape-first a filled.0 B at end l h) (shape-reads a filled.0 B at end l h)

@@ -11,7 +11,7 @@ use Rattle.awd_block_fault.specs.Faults.{fault, short, in_entry, field_of, on, t
 use Rattle.awd_field.specs.Fields.{bytes_at}
 use Rattle.awd_format.specs.Runs.{Reading, counted_at, filling_at}
 use Rattle.awd_format.specs.Shapes.{Shape, number, bytes, counted, measured, also, sound, tested, read_of, entry_of}
-use Rattle.awd_format.proofs.Standing.{length_part}
+use Rattle.awd_format.proofs.Standing.{fit_both, length_part}
 
 -- a place read from at on lies there or further, and in the holder
 abbrev pub Ahead : {F : Type 0} → ℕ → ℕ → Result ℕ F → Type 0
@@ -24,11 +24,11 @@ ahead-turned turn at end (Err x) w = tt
 ahead-on : {F G : Type 0} (turn : F → G) (at end : ℕ) (r : Result ℕ F) (f : ℕ → Result ℕ G) → Ahead at end r → ((e : ℕ) → at ≤ e → e ≤ end → Ahead e end (f e)) → Ahead at end (on turn r f)
 ahead-on turn at end (Err x) f w next = tt
 ahead-on turn at end (Ok e) f w next =
-    IfOk-weaker (f e) (λ p. (e ≤ p) × (p ≤ end)) (λ p. (at ≤ p) × (p ≤ end)) (λ p q. (omega (arith, q.0, w.0), q.1)) (next e w.0 w.1)
+    IfOk-weaker (f e) _ _ (λ p q. (omega (arith, q.0, w.0), q.1)) (next e w.0 w.1)
 
 ahead-bytes : (at end n : ℕ) → Ahead at end (bytes_at at end n)
 ahead-bytes at end n =
-    cond_both (leb (at + n) end) (Ok (at + n)) (Err (short at)) (Ahead at end) (λ yes. let fit = leb-true (at + n) end yes in (omega arith, omega arith)) (λ _. tt)
+    fit_both at n end (at + n) (Ahead at end) (λ fit. (omega arith, omega arith)) (λ _. tt)
 
 module _ (read : Reading) (B : List ℕ) (end : ℕ) (ahead : (i at : ℕ) → at ≤ end → Ahead at end (read i B at end)) where
   ahead-counted : (n i at : ℕ) → at ≤ end → Ahead at end (counted_at read B end n i at)
@@ -49,13 +49,12 @@ ahead-tested at end e h (Some x) = tt
 
 pub shape-ahead : (L : Shape) (B : List ℕ) (at end : ℕ) → at ≤ end → Ahead at end (read_of L B at end)
 shape-ahead (number width allowed cause next) B at end h =
-    cond_both (leb (at + width) end) (Ok (le (part B at width))) (Err (short at))
+    fit_both at width end (le (part B at width))
     (λ r. Ahead at end (on Field r (λ v. cond (allowed v) (read_of (next v) B (at + width) end) (Err (Field (fault cause at))))))
-    (λ yes.
+    (λ fit.
     let v = le (part B at width) in
-    let fit = leb-true (at + width) end yes in
     cond_both (allowed v) (read_of (next v) B (at + width) end) (Err (Field (fault cause at))) (Ahead at end)
-    (λ _. IfOk-weaker (read_of (next v) B (at + width) end) (λ p. (at + width ≤ p) × (p ≤ end)) (λ p. (at ≤ p) × (p ≤ end)) (λ p q. (omega (arith, q.0), q.1))
+    (λ _. IfOk-weaker (read_of (next v) B (at + width) end) _ _ (λ p q. (omega (arith, q.0), q.1))
     (shape-ahead (next v) B (at + width) end fit))
     (λ _. tt))
     (λ _. tt)
@@ -64,12 +63,11 @@ shape-ahead (counted n entry) B at end h =
     ahead-turned Entry at end (counted_at (λ i. entry_of (entry i)) B end n 0 at)
     (ahead-counted (λ i. entry_of (entry i)) B end (λ i p l. ahead-turned field_of p end (read_of (entry i) B p end) (shape-ahead (entry i) B p end l)) n 0 at h)
 shape-ahead (measured n entry) B at end h =
-    cond_both (leb (at + n) end) (Ok (at + n)) (Err (short at)) (λ r. Ahead at end (on Field r (λ stop. turned Entry (filling_at (λ i. entry_of (entry i)) B stop n 0 at))))
-    (λ yes.
-    let fit = leb-true (at + n) end yes in
+    fit_both at n end (at + n) (λ r. Ahead at end (on Field r (λ stop. turned Entry (filling_at (λ i. entry_of (entry i)) B stop n 0 at))))
+    (λ fit.
     let inside = ahead-filling (λ i. entry_of (entry i)) B (at + n) (λ i p l. ahead-turned field_of p (at + n) (read_of (entry i) B p (at + n)) (shape-ahead (entry i) B p (at + n) l)) n 0 at (omega arith) in
     let r = turned Entry (filling_at (λ i. entry_of (entry i)) B (at + n) n 0 at) in
-    IfOk-weaker r (λ p. (at ≤ p) × (p ≤ at + n)) (λ p. (at ≤ p) × (p ≤ end)) (λ p q. (q.0, omega (arith, q.1)))
+    IfOk-weaker r _ _ (λ p q. (q.0, omega (arith, q.1)))
     (ahead-turned Entry at (at + n) (filling_at (λ i. entry_of (entry i)) B (at + n) n 0 at) inside))
     (λ _. tt)
 shape-ahead (also a b) B at end h =
@@ -89,9 +87,13 @@ on_same turn (Err x) f g w = refl
 on_alike : {F G : Type 0} (turn : F → G) (r q : Result ℕ F) (f g : ℕ → Result ℕ G) → r ≡ q → IfOk r (λ e. f e ≡ g e) → on turn r f ≡ on turn q g
 on_alike turn r q f g same next = subst (λ q. on turn r f ≡ on turn q g) same (on_same turn r f g next)
 
-fit-alike : (b : Bool) (u v : ℕ) (x : FieldFault) (f g : ℕ → Result ℕ BlockFault) → (b ≡ true → f u ≡ g v) → on Field (cond b (Ok u) (Err x)) f ≡ on Field (cond b (Ok v) (Err x)) g
+-- two fields that fit or not alike, and go on alike
+pub fit-alike : (b : Bool) (u v : ℕ) (x : FieldFault) (f g : ℕ → Result ℕ BlockFault) → (b ≡ true → f u ≡ g v) → on Field (cond b (Ok u) (Err x)) f ≡ on Field (cond b (Ok v) (Err x)) g
 fit-alike true u v x f g next = next refl
 fit-alike false u v x f g next = refl
+
+get_or_part : (B : List ℕ) (at n i : ℕ) → i < n → get_or (part B at n) i 0 ≡ get_or B (at + i) 0
+get_or_part B at n i h = get_or-take n (drop at B) i 0 h ∙ get_or-drop at B i 0
 
 module _ (B C : List ℕ) where
   -- the same bytes from a place to another
@@ -106,15 +108,13 @@ module _ (B C : List ℕ) where
       let l = length_part B at n b in
       let k = length_part C at n c in
       ext_get_or 0 (part B at n) (part C at n) (omega arith) (λ i h.
-      get_or-take n (drop at B) i 0 (omega arith) ∙ get_or-drop at B i 0 ∙ same (at + i) (omega arith) (omega arith)
-      ∙ sym (get_or-take n (drop at C) i 0 (omega arith) ∙ get_or-drop at C i 0))
+      get_or_part B at n i (omega arith) ∙ same (at + i) (omega arith) (omega arith) ∙ sym (get_or_part C at n i (omega arith)))
 
   pub alike_from : (at end : ℕ) → end ≤ length B → end ≤ length C → part B at (end - at) ≡ part C at (end - at) → Alike at end
   alike_from at end b c same i l h =
       let j : at + (i - at) ≡ i = omega arith in
       let k : i - at < end - at = omega arith in
-      sym (get_or-take (end - at) (drop at B) (i - at) 0 k ∙ get_or-drop at B (i - at) 0 ∙ ap (λ x. get_or B x 0) j)
-      ∙ ap (λ x. get_or x (i - at) 0) same ∙ (get_or-take (end - at) (drop at C) (i - at) 0 k ∙ get_or-drop at C (i - at) 0 ∙ ap (λ x. get_or C x 0) j)
+      rw j at (sym (get_or_part B at (end - at) (i - at) k) ∙ ap (λ x. get_or x (i - at) 0) same ∙ get_or_part C at (end - at) (i - at) k)
 
   module _ (read : Reading) (end : ℕ)
       (ahead : (i at : ℕ) → at ≤ end → Ahead at end (read i B at end))
@@ -123,7 +123,7 @@ module _ (B C : List ℕ) where
     counted-alike zero i at h same = refl
     counted-alike (suc n) i at h same =
         on_alike (in_entry i) (read i B at end) (read i C at end) (λ e. counted_at read B end n (i + 1) e) (λ e. counted_at read C end n (i + 1) e) (alike i at h same)
-        (IfOk-weaker (read i B at end) (λ e. (at ≤ e) × (e ≤ end)) (λ e. counted_at read B end n (i + 1) e ≡ counted_at read C end n (i + 1) e)
+        (IfOk-weaker (read i B at end) _ _
         (λ e w. counted-alike n (i + 1) e w.1 (inner at end e end same w.0 (omega arith))) (ahead i at h))
 
     filling-alike : (turns i at : ℕ) → at ≤ end → Alike at end → filling_at read B end turns i at ≡ filling_at read C end turns i at
@@ -131,7 +131,7 @@ module _ (B C : List ℕ) where
     filling-alike (suc turns) i at h same =
         ap (cond (eqb at end) (Ok at))
         (on_alike (in_entry i) (read i B at end) (read i C at end) (λ e. filling_at read B end turns (i + 1) e) (λ e. filling_at read C end turns (i + 1) e) (alike i at h same)
-        (IfOk-weaker (read i B at end) (λ e. (at ≤ e) × (e ≤ end)) (λ e. filling_at read B end turns (i + 1) e ≡ filling_at read C end turns (i + 1) e)
+        (IfOk-weaker (read i B at end) _ _
         (λ e w. filling-alike turns (i + 1) e w.1 (inner at end e end same w.0 (omega arith))) (ahead i at h)))
 
   shape-alike : (L : Shape) (at end : ℕ) → at ≤ end → end ≤ length B → end ≤ length C → Alike at end → read_of L B at end ≡ read_of L C at end
@@ -157,11 +157,11 @@ module _ (B C : List ℕ) where
       (λ i p l s. ap (turned field_of) (shape-alike (entry i) p (at + n) l b' c' s)) n 0 at (omega arith) (inner at end at (at + n) same (omega arith) fit)))
   shape-alike (also a d) at end h b c same =
       on_alike (λ x. x) (read_of a B at end) (read_of a C at end) (λ e. read_of d B e end) (λ e. read_of d C e end) (shape-alike a at end h b c same)
-      (IfOk-weaker (read_of a B at end) (λ e. (at ≤ e) × (e ≤ end)) (λ e. read_of d B e end ≡ read_of d C e end)
+      (IfOk-weaker (read_of a B at end) _ _
       (λ e w. shape-alike d e end w.1 b c (inner at end e end same w.0 (omega arith))) (shape-ahead a B at end h))
   shape-alike (sound a flaw) at end h b c same =
       on_alike (λ x. x) (read_of a B at end) (read_of a C at end) (λ e. tested at e (flaw (part B at (e - at)))) (λ e. tested at e (flaw (part C at (e - at)))) (shape-alike a at end h b c same)
-      (IfOk-weaker (read_of a B at end) (λ e. (at ≤ e) × (e ≤ end)) (λ e. tested at e (flaw (part B at (e - at))) ≡ tested at e (flaw (part C at (e - at))))
+      (IfOk-weaker (read_of a B at end) _ _
       (λ e w. let n : at + (e - at) ≡ e = omega (arith, w.0) in
       ap (λ x. tested at e (flaw x)) (part-alike at (e - at) (omega (arith, w.1)) (omega (arith, w.1)) (inner at end at (at + (e - at)) same (omega arith) (omega (arith, w.1)))))
       (shape-ahead a B at end h))

@@ -1,14 +1,14 @@
 -- What runs read: exactly the members that stand there, or the fault of the first entry that is none.
-use Rattle.std.proofs.Common.{◌≡◌, ℕ, zero, suc, ◌+◌, ◌-◌, ◌<◌, ◌≤◌, eqb, leb, List, [], ◌∷◌, ◌++◌, length, Ok, Err, Result, sym, refl, ap, ◌∙◌, subst, add-zero, zero-add, arith, length-append}
-use Rattle.std.proofs.lemmas.Bool.{cond_both, cond-false, ne_eqb, eqb-true, eqb-false, leb-true, leb-false}
+use Rattle.std.proofs.Common.{◌≡◌, ℕ, zero, suc, ◌+◌, ◌-◌, ◌<◌, ◌≤◌, eqb, List, [], ◌∷◌, ◌++◌, length, Ok, Err, Result, sym, refl, ap, ◌∙◌, subst, add-zero, zero-add, arith, length-append}
+use Rattle.std.proofs.lemmas.Bool.{cond_both, cond-false, ne_eqb, eqb-true, eqb-false}
 use Rattle.awd_block_fault.specs.declared.FieldFault.{FieldFault}
 use Rattle.awd_block_fault.specs.declared.EntryFault.{EntryFault}
 use Rattle.awd_block_fault.specs.declared.BlockFault.{BlockFault}
 use Rattle.awd_block_fault.specs.declared.BlockFault.TheVariants.{Field, Entry}
-use Rattle.awd_block_fault.specs.Faults.{in_entry, short, on, turned}
-use Rattle.awd_format.specs.Runs.{Reading, counted_at, filling_at, measured_at, KindLaw, FirstFault, CountedFault, MeasuredFault}
+use Rattle.awd_block_fault.specs.Faults.{in_entry, on, turned}
+use Rattle.awd_format.specs.Runs.{Reading, counted_at, filling_at, measured_at, KindLaw, CountedFault, MeasuredFault}
 use Rattle.awd_format.specs.Sets.{Stands, NoneBegins, Reads, Then, Members, in_row, Counted, Measured}
-use Rattle.awd_format.proofs.Standing.{stands-none, stands-more, stands-first, stands-rest, stands_one}
+use Rattle.awd_format.proofs.Standing.{fit_both, stands-none, stands-more, stands-first, stands-rest, stands_one}
 use Rattle.awd_format.proofs.SetLaws.{counted_none, counted-more, counted-first, measured-none, measured-more, measured-first}
 
 module _ (B : List ℕ) (at end : ℕ) where
@@ -177,18 +177,15 @@ module _ (read : Reading) (M : ℕ → List ℕ → Type 0) (k : KindLaw read M)
   filling-at-fault turns at m i enough (ms, row, len, ps) s lt y err =
       filling-reaches turns 0 at ms ps (subst (Stands B at end) row s) enough i (at + length m) lt (omega arith) (ap (λ x. at + length x) row) y err
 
-  first : (more : ℕ → ℕ → Type 0) (at : ℕ) (x : EntryFault) → Later more 0 at (Err x) → FirstFault read M B at end x
-  first more at x (j, m, ix, c, s, err, _) = (m, subst (λ a. Counted M 0 a m) (sym (ix ∙ zero-add j)) c, s, err)
-
   judged : (more : ℕ → ℕ → Type 0) (at : ℕ) (r : Result ℕ EntryFault) → Later more 0 at r → CountedFault read M B at end r
   judged more at (Ok e) w = tt
-  judged more at (Err x) w = first more at x w
+  judged more at (Err x) (j, m, ix, c, s, err, _) = (m, subst (λ a. Counted M 0 a m) (sym (ix ∙ zero-add j)) c, s, err)
 
   pub counted-exact : (n at : ℕ) (r : Result ℕ EntryFault) → r ≡ counted_at read B end n 0 at → at ≤ end → Reads (Counted M 0 n) B at end r
-  counted-exact n at r is le = subst (Reads (Counted M 0 n) B at end) (sym is) (counted-reads n 0 at le)
+  counted-exact n at r is le = rw is (counted-reads n 0 at le)
 
   pub counted-fault : (n at : ℕ) (r : Result ℕ EntryFault) → r ≡ counted_at read B end n 0 at → at ≤ end → CountedFault read M B at end r
-  counted-fault n at r is le = subst (CountedFault read M B at end) (sym is) (judged (λ j _. j < n) at (counted_at read B end n 0 at) (counted-later n n 0 at (omega arith) le))
+  counted-fault n at r is le = rw is (judged (λ j _. j < n) at (counted_at read B end n 0 at) (counted-later n n 0 at (omega arith) le))
 
   pub filling-fault : (turns at : ℕ) → at ≤ end → CountedFault read M B at end (filling_at read B end turns 0 at)
   filling-fault turns at le = judged (λ _ p. p < end) at (filling_at read B end turns 0 at) (filling-later turns 0 at le)
@@ -197,14 +194,13 @@ module _ (read : Reading) (M : ℕ → List ℕ → Type 0) (k : KindLaw read M)
 module _ (read : Reading) (M : ℕ → List ℕ → Type 0) (k : KindLaw read M) (B : List ℕ) (at end : ℕ) (h : end ≤ length B) (size : ℕ) where
   pub measured-reads : Reads (Measured M 0 size) B at end (measured_at read B at end size)
   measured-reads =
-      cond_both (leb (at + size) end) (Ok (at + size)) (Err (short at)) (λ r. Reads (Measured M 0 size) B at end (on Field r (λ stop. turned Entry (filling_at read B stop size 0 at))))
-      (λ yes.
-      let fit = leb-true (at + size) end yes in
+      fit_both at size end (at + size) (λ r. Reads (Measured M 0 size) B at end (on Field r (λ stop. turned Entry (filling_at read B stop size 0 at))))
+      (λ fit.
       let n : at + size - at ≡ size = omega arith in
       widen fit (filling_at read B (at + size) size 0 at)
       (subst (λ x. Reads (Measured M 0 x) B at (at + size) (filling_at read B (at + size) size 0 at)) n
       (filling-reads read M k B (at + size) (omega arith) size 0 at (omega arith) (omega arith))))
-      (λ no' m p st. omega (arith, leb-false (at + size) end no', st.fits, p.2))
+      (λ lt m p st. omega (arith, st.fits, p.2))
     where
       widen : at + size ≤ end → (r : Result ℕ EntryFault) → Reads (Measured M 0 size) B at (at + size) r → Reads (Measured M 0 size) B at end (turned Entry r)
       widen fit (Ok x) (m, is, p, s) = (m, is, p, record { fits = omega (arith, s.fits); is = s.is })
@@ -212,18 +208,16 @@ module _ (read : Reading) (M : ℕ → List ℕ → Type 0) (k : KindLaw read M)
 
   measured-judged : MeasuredFault read M B at end size (measured_at read B at end size)
   measured-judged =
-      cond_both (leb (at + size) end) (Ok (at + size)) (Err (short at)) (λ r. MeasuredFault read M B at end size (on Field r (λ stop. turned Entry (filling_at read B stop size 0 at))))
-      (λ yes.
-      let fit = leb-true (at + size) end yes in
-      turn fit (filling_at read B (at + size) size 0 at) (filling-fault read M k B (at + size) (omega arith) size at (omega arith)))
-      (λ no'. (omega (arith, leb-false (at + size) end no'), refl))
+      fit_both at size end (at + size) (λ r. MeasuredFault read M B at end size (on Field r (λ stop. turned Entry (filling_at read B stop size 0 at))))
+      (λ fit. turn fit (filling_at read B (at + size) size 0 at) (filling-fault read M k B (at + size) (omega arith) size at (omega arith)))
+      (λ lt. (lt, refl))
     where
       turn : at + size ≤ end → (r : Result ℕ EntryFault) → CountedFault read M B at (at + size) r → MeasuredFault read M B at end size (turned Entry r)
       turn fit (Ok e) w = tt
       turn fit (Err x) w = (fit, w)
 
   pub measured-exact : (r : Result ℕ BlockFault) → r ≡ measured_at read B at end size → Reads (Measured M 0 size) B at end r
-  measured-exact r is = subst (Reads (Measured M 0 size) B at end) (sym is) measured-reads
+  measured-exact r is = rw is measured-reads
 
   pub measured-fault : (r : Result ℕ BlockFault) → r ≡ measured_at read B at end size → MeasuredFault read M B at end size r
-  measured-fault r is = subst (MeasuredFault read M B at end size) (sym is) measured-judged
+  measured-fault r is = rw is measured-judged

@@ -1,6 +1,7 @@
 -- In which sets no member begins another, and how a run is cut.
 use Rattle.std.proofs.Common.{◌≡◌, ℕ, zero, suc, ◌+◌, ◌-◌, ◌<◌, List, [], ◌∷◌, ◌++◌, length, sym, refl, ap, ◌∙◌, subst, add-zero, arith, length-append}
 use Rattle.std.proofs.lemmas.List.{nil_from_length, append_assoc, append-nil}
+use Rattle.std.proofs.lemmas.List.Concat.{flat_map-append}
 use Rattle.awd_format.specs.Sets.{NoneBegins, Wide, Then, Members, in_row, Counted, Measured}
 use Rattle.awd_format.proofs.Standing.{begins-one}
 
@@ -54,14 +55,10 @@ module _ (M : ℕ → List ℕ → Type 0) where
       let i : j + suc (length ms) ≡ j + 1 + length ms = omega arith in
       (p.0, members-push (j + 1) ms m p.1 (subst (λ k. M k m) i q))
 
-  row-push : (ms : List (List ℕ)) (m : List ℕ) → in_row (ms ++ m ∷ []) ≡ in_row ms ++ m
-  row-push [] m = append-nil m
-  row-push (n ∷ ms) m = ap (λ x. n ++ x) (row-push ms m) ∙ sym (append_assoc n (in_row ms) m)
-
   pub counted-push : (n : ℕ) (bs m : List ℕ) → Counted M 0 n bs → M n m → Counted M 0 (n + 1) (bs ++ m)
   counted-push n bs m (ms, row, len, rest) p =
       let i : n ≡ 0 + length ms = omega arith in
-      (ms ++ m ∷ [], ap (λ x. x ++ m) row ∙ sym (row-push ms m), omega (arith, length-append ms (m ∷ [])), members-push 0 ms m rest (subst (λ k. M k m) i p))
+      (ms ++ m ∷ [], rw (flat_map-append, append-nil) (ap (λ x. x ++ m) row), omega (arith, length-append ms (m ∷ [])), members-push 0 ms m rest (subst (λ k. M k m) i p))
 
   pub measured-none : (i : ℕ) → Measured M i 0 []
   measured-none i = ([], refl, refl, tt)

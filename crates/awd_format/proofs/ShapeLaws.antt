@@ -1,16 +1,16 @@
 -- Each shape is read exactly, and none of its members begins another.
-use Rattle.std.proofs.Common.{◌≡◌, ℕ, ◌+◌, ◌-◌, ◌≤◌, Bool, true, false, cond, leb, List, [], length, Some, None, Ok, Err, Option, Result, sym, refl, ap, ◌∙◌, subst, arith}
-use Rattle.std.proofs.lemmas.Bool.{cond_both, both_ways, leb-true, leb-false}
+use Rattle.std.proofs.Common.{◌≡◌, ℕ, ◌+◌, ◌-◌, ◌≤◌, Bool, true, false, cond, List, [], length, Some, None, Ok, Err, Option, Result, sym, refl, ap, ◌∙◌, subst, arith}
+use Rattle.std.proofs.lemmas.Bool.{both_ways}
 use Rattle.awd_source.specs.Bytes.{le, part}
 use Rattle.awd_block_fault.specs.declared.FieldFault.{FieldFault}
 use Rattle.awd_block_fault.specs.declared.BlockFault.{BlockFault}
 use Rattle.awd_block_fault.specs.declared.BlockFault.TheVariants.{Field, Entry}
-use Rattle.awd_block_fault.specs.Faults.{fault, short, field_of, on}
+use Rattle.awd_block_fault.specs.Faults.{fault, field_of, on}
 use Rattle.awd_field.specs.Fields.{number_at, bytes_at}
 use Rattle.awd_format.specs.Runs.{KindLaw, counted_at}
 use Rattle.awd_format.specs.Sets.{Stands, NoneBegins, Reads, Wide, Then, Counted}
 use Rattle.awd_format.specs.Shapes.{Shape, number, bytes, counted, measured, also, sound, Given, SetOf, tested, read_of, entry_of, Filled}
-use Rattle.awd_format.proofs.Standing.{stands-part, stands-first, stands_one, length_part}
+use Rattle.awd_format.proofs.Standing.{fit_both, stands-part, stands-first, stands_one, length_part}
 use Rattle.awd_format.proofs.SetLaws.{free-sized, free-wide, free-then, counted-free}
 use Rattle.awd_format.proofs.RunLaws.{reads_turned, reads_more, reads_then, counted-reads, measured-reads}
 
@@ -33,25 +33,23 @@ module _ (B : List ℕ) (at end : ℕ) (h : end ≤ length B) where
       → ((digits : List ℕ) → length digits ≡ width → Stands B at end digits → Reads (Q digits) B (at + width) end (f (le digits)))
       → Reads (Then (Wide width) Q) B at end (on Field (number_at B at end width) f)
   number-reads width Q f next =
-      cond_both (leb (at + width) end) (Ok (le (part B at width))) (Err (short at)) (λ r. Reads (Then (Wide width) Q) B at end (on Field r f))
-      (λ yes.
-      let fit = leb-true (at + width) end yes in
+      fit_both at width end (le (part B at width)) (λ r. Reads (Then (Wide width) Q) B at end (on Field r f))
+      (λ fit.
       let l : length (part B at width) ≡ width = length_part B at width (omega arith) in
       let s = stands-part B at end width fit h in
       reads_more B at end (Wide width) Q (free-wide width) (part B at width) l s (f (le (part B at width)))
       (subst (λ n. Reads (Q (part B at width)) B (at + n) end (f (le (part B at width)))) (sym l) (next (part B at width) l s)))
-      (λ no' bs v st.
+      (λ lt bs v st.
       let first = stands-first B at end v.0 v.1 (subst (Stands B at end) v.2 st) in
-      omega (arith, leb-false (at + width) end no', first.fits, v.3))
+      omega (arith, first.fits, v.3))
 
   bytes-reads : (n : ℕ) → Reads (Wide n) B at end (bytes_at at end n)
   bytes-reads n =
-      cond_both (leb (at + n) end) (Ok (at + n)) (Err (short at)) (Reads (Wide n) B at end)
-      (λ yes.
-      let fit = leb-true (at + n) end yes in
+      fit_both at n end (at + n) (Reads (Wide n) B at end)
+      (λ fit.
       let l : length (part B at n) ≡ n = length_part B at n (omega arith) in
       (part B at n, ap (λ x. at + x) (sym l), l, stands-part B at end n fit h))
-      (λ no' m p st. omega (arith, leb-false (at + n) end no', st.fits, p))
+      (λ lt m p st. omega (arith, st.fits, p))
 
   sound-reads : (P : List ℕ → Type 0) → NoneBegins P → (flaw : List ℕ → Option FieldFault) (r : Result ℕ BlockFault) → Reads P B at end r
       → Reads (λ m. P m × (flaw m ≡ None)) B at end (on (λ x. x) r (λ e. tested at e (flaw (part B at (e - at)))))
@@ -65,8 +63,7 @@ module _ (B : List ℕ) (at end : ℕ) (h : end ≤ length B) where
       judged None eq = (m, is, (p, eq), s)
       judged (Some x) eq = λ n q st.
           let one = stands_one P free B at end n m q.0 p st s in
-          let z : ◌≡◌ {A = ℕ} 0 1 = cc (q.1, eq, ap flaw one) in
-          omega arith
+          absurd (cc (q.1, eq, ap flaw one))
 
 -- the law of entries that shapes describe
 kind-from : (entry : ℕ → Shape) → ((i : ℕ) → SetOf (entry i) [] → ⊥)

@@ -1,10 +1,16 @@
 -- What stands where in a list of bytes.
-use Rattle.std.proofs.Common.{◌≡◌, ℕ, ◌+◌, ◌-◌, ◌≤◌, ◌⊎◌, List, [], ◌++◌, length, take, drop, sym, refl, ap, ◌∙◌, subst, inl, inr, ⊎_elim, add-zero, arith, length-append, length-drop, length-take, take-take, drop-drop, take-add}
+use Rattle.std.proofs.Common.{◌≡◌, ℕ, ◌+◌, ◌-◌, ◌<◌, ◌≤◌, cond, leb, List, [], ◌++◌, length, Ok, Err, Result, take, drop, sym, refl, ap, ◌∙◌, subst, ⊎_elim, add-zero, arith, length-append, length-drop, length-take, take-take, drop-drop, take-add}
 use lib.Seq.{take-append_seam, take-length}
 use Rattle.std.proofs.lemmas.List.{append_cancel_left, append-nil}
-use Rattle.std.proofs.lemmas.Bool.{cases_lt}
+use Rattle.std.proofs.lemmas.Bool.{cases_lt, cond_both, leb-true, leb-false}
 use Rattle.awd_source.specs.Bytes.{part}
+use Rattle.awd_block_fault.specs.declared.FieldFault.{FieldFault}
+use Rattle.awd_block_fault.specs.Faults.{short}
 use Rattle.awd_format.specs.Sets.{Stands, NoneBegins}
+
+-- what fits behind a place, and what does not
+pub fit_both : (at n end v : ℕ) (P : Result ℕ FieldFault → Type 0) → (at + n ≤ end → P (Ok v)) → (end < at + n → P (Err (short at))) → P (cond (leb (at + n) end) (Ok v) (Err (short at)))
+fit_both at n end v P fits over = cond_both (leb (at + n) end) (Ok v) (Err (short at)) P (λ is. fits (leb-true (at + n) end is)) (λ is. over (leb-false (at + n) end is))
 
 pub part-add : (B : List ℕ) (at n m : ℕ) → part B at (n + m) ≡ part B at n ++ part B (at + n) m
 part-add B at n m = take-add n m (drop at B) ∙ ap (λ x. take n (drop at B) ++ take m x) (drop-drop n at B)
@@ -53,16 +59,13 @@ stands-begins B at end m n s u h =
     let k : length n ≡ length m + (length n - length m) = omega arith in
     (part B (at + length m) (length n - length m), sym u.is ∙ ap (part B at) k ∙ part-add B at (length m) (length n - length m) ∙ ap (λ x. x ++ part B (at + length m) (length n - length m)) s.is)
 
-either_way : (a b : ℕ) → (a ≤ b) ⊎ (b ≤ a)
-either_way a b = ⊎_elim (λ h. inl (omega arith)) inr (cases_lt a b)
-
 -- one member at most of a set in which none begins another
 pub stands_one : (P : List ℕ → Type 0) → NoneBegins P → (B : List ℕ) (at end : ℕ) (m n : List ℕ) → P m → P n → Stands B at end m → Stands B at end n → m ≡ n
 stands_one P free B at end m n p q s u =
     ⊎_elim
-    (λ h. let b = stands-begins B at end m n s u h in sym (b.1 ∙ ap (λ x. m ++ x) (free m b.0 p (subst P b.1 q)) ∙ append-nil m))
+    (λ (h : length m < length n). let b = stands-begins B at end m n s u (omega arith) in sym (b.1 ∙ ap (λ x. m ++ x) (free m b.0 p (subst P b.1 q)) ∙ append-nil m))
     (λ h. let b = stands-begins B at end n m u s h in b.1 ∙ ap (λ x. n ++ x) (free n b.0 q (subst P b.1 p)) ∙ append-nil n)
-    (either_way (length m) (length n))
+    (cases_lt (length m) (length n))
 
 -- so of two ways in which a list begins with a member
 pub begins-one : (P : List ℕ → Type 0) → NoneBegins P → (m t n u : List ℕ) → P m → P n → m ++ t ≡ n ++ u → (m ≡ n) × (t ≡ u)

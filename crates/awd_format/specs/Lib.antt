@@ -3,3 +3,4 @@ pub mod Runs
 pub mod Shapes
 pub mod FirstFaults
 pub mod Laws
+pub mod Readings

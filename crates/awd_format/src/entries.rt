@@ -1,16 +1,17 @@
 // Runs of entries, written once for any kind of entry: so many of them, or as many as fill so many bytes.
-ghost use Rattle.std.specs.Prelude.{◌≡◌, ℕ, ◌+◌, ◌-◌, ◌<◌, ◌≤◌, List, length, IfOk};
+ghost use Rattle.std.specs.Prelude.{◌≡◌, ℕ, ◌+◌, ◌-◌, ◌<◌, ◌≤◌, List, IfOk};
+ghost use Rattle.awd_field.specs.Holders.{held, Ends, Further};
 ghost use Rattle.awd_source.specs.Bytes.{le, part};
 ghost use Rattle.awd_block_fault.specs.Faults.{in_entry, turned};
-ghost use Rattle.awd_field.specs.Fields.{limit};
 ghost use Rattle.awd_format.specs.Runs.{Reading, KindLaw, counted_at, filling_at, measured_at, list_at, CountedFault, MeasuredFault};
 ghost use Rattle.awd_format.specs.Sets.{Reads, Counted, Measured};
 
 use awd_block_fault::{BlockFault, EntryFault, FieldFault};
-use awd_field::{FOUR, bytes_at, number_at};
+use awd_field::{FOUR, Holder};
 use awd_source::Source;
 
-// A kind of entry. It stands for a set of byte lists, which may depend on the entry's index in its run.
+// A kind of entry. It stands for a set of byte lists, which may depend on the entry's index in its run. (A kind given by a shape says so in
+// three lines of the same form; the trait asks for no shape, so that other kinds may be given too.)
 pub trait EntryKind {
     // how the entry of an index is read
     ghost reading: { Self → Reading };
@@ -19,119 +20,104 @@ pub trait EntryKind {
     ghost members: { Self → ℕ → List ℕ → Type 0 };
 
     // The place behind the entry of an index.
-    fn read<S: Source>(&self, source: &S, at: u64, end: u64, index: u64) -> Result<u64, FieldFault>
-        ensures read { let B = S.Source.bytes source.now in result ≡ reading self.now index B at (limit B end) }
-        ensures fits { let B = S.Source.bytes source.now in IfOk result (λ e. (at < e) × (e ≤ end) × (e ≤ length B)) };
+    fn read<S: Source>(&self, holder: &Holder<S>, at: u64, index: u64) -> Result<u64, FieldFault>
+        ensures read { result ≡ reading self.now index (held holder.now) at holder.now.end }
+        ensures fits { Further at holder.now.end result };
 
     ghost lawful: { (kind : Self) → KindLaw (reading kind) (members kind) };
 }
 
-// A fault beside the index of its entry, which is what an entry's fault is made from.
-fn beside(index: u64, r: Result<u64, FieldFault>) -> Result<u64, (u64, FieldFault)>
-    ensures { result ≡ turned (λ x. (index, x)) r }
-{
-    match r {
-        Ok(behind) => Ok(behind),
-        Err(field) => Err((index, field)),
-    }
-}
-
 // One entry of a run; its fault has its index.
 fn entry_at<S: Source, K: EntryKind>(
-    source: &S,
+    holder: &Holder<S>,
     kind: &K,
     at: u64,
-    end: u64,
     index: u64,
 ) -> Result<u64, EntryFault>
-    ensures read { let B = S.Source.bytes source.now in let read = K.EntryKind.reading kind.now in result ≡ turned (in_entry index) (read index B at (limit B end)) }
-    ensures fits { let B = S.Source.bytes source.now in IfOk result (λ e. (at < e) × (e ≤ end) × (e ≤ length B)) }
+    ensures read { result ≡ turned (in_entry index) (K.reading kind.now index (held holder.now) at holder.now.end) }
+    ensures fits { Further at holder.now.end result }
 {
-    let behind = beside(index, kind.read(source, at, end, index))?;
-    Ok(behind)
+    kind.read(holder, at, index)
+        .map_err(|field| field.in_entry(index))
 }
 
-// So many entries, one after another.
+// So many entries, one after another. (Apart from `counted`, whose other promises follow from this one: so the loop has this alone to keep.)
 fn row<S: Source, K: EntryKind>(
-    source: &S,
+    holder: &Holder<S>,
     kind: &K,
     at: u64,
-    end: u64,
     count: u64,
 ) -> Result<u64, EntryFault>
-    ensures { let B = S.Source.bytes source.now in let read = K.EntryKind.reading kind.now in result ≡ counted_at read B (limit B end) count 0 at }
+    ensures { result ≡ counted_at (K.reading kind.now) (held holder.now) holder.now.end count 0 at }
 {
     let mut place = at;
     for index in 0..count {
-        place = entry_at(source, kind, place, end, index)?;
+        place = entry_at(holder, kind, place, index)?;
     }
     Ok(place)
 }
 
 // Entries as far as their holder's end.
 fn filling<S: Source, K: EntryKind>(
-    source: &S,
+    holder: &Holder<S>,
     kind: &K,
     at: u64,
-    end: u64,
 ) -> Result<u64, EntryFault>
-    requires { (at ≤ end) × (end ≤ length (S.Source.bytes source.now)) }
-    ensures read { let B = S.Source.bytes source.now in let read = K.EntryKind.reading kind.now in result ≡ filling_at read B end (end - at) 0 at }
-    ensures fits { IfOk result (λ e. e ≡ end) }
+    requires { at ≤ holder.now.end }
+    ensures read { result ≡ filling_at (K.reading kind.now) (held holder.now) holder.now.end (holder.now.end - at) 0 at }
+    ensures fits { IfOk result (λ e. e ≡ holder.now.end) }
 {
+    let end = holder.end;
     let mut place = at;
-    let mut index = 0;
-    while place < end {
-        place = entry_at(source, kind, place, end, index)?;
-        index += 1;
+    // each entry has a byte, so as many turns as bytes are enough
+    for index in 0..end - at {
+        if place == end {
+            break;
+        }
+        place = entry_at(holder, kind, place, index)?;
     }
     Ok(place)
 }
 
 // The place behind so many entries.
 pub fn counted<S: Source, K: EntryKind>(
-    source: &S,
+    holder: &Holder<S>,
     kind: &K,
     at: u64,
-    end: u64,
     count: u64,
 ) -> Result<u64, EntryFault>
-    ensures read { let B = S.Source.bytes source.now in let read = K.EntryKind.reading kind.now in result ≡ counted_at read B (limit B end) count 0 at }
-    ensures exact { let B = S.Source.bytes source.now in let M = K.EntryKind.members kind.now in (at ≤ limit B end → Reads (Counted M 0 count) B at (limit B end) result) }
-    ensures first { let B = S.Source.bytes source.now in let read = K.EntryKind.reading kind.now in let M = K.EntryKind.members kind.now in (at ≤ limit B end → CountedFault read M B at (limit B end) result) }
+    ensures read { result ≡ counted_at (K.reading kind.now) (held holder.now) holder.now.end count 0 at }
+    ensures exact { at ≤ holder.now.end → Reads (Counted (K.members kind.now) 0 count) (held holder.now) at holder.now.end result }
+    ensures first { at ≤ holder.now.end → CountedFault (K.reading kind.now) (K.members kind.now) (held holder.now) at holder.now.end result }
 {
-    row(source, kind, at, end, count)
+    row(holder, kind, at, count)
 }
 
 // The place behind a run that fills so many bytes. The run must fit its holder; its entries must fit the run.
 pub fn measured<S: Source, K: EntryKind>(
-    source: &S,
+    holder: &Holder<S>,
     kind: &K,
     at: u64,
-    end: u64,
     size: u64,
 ) -> Result<u64, BlockFault>
-    ensures read { let B = S.Source.bytes source.now in let read = K.EntryKind.reading kind.now in result ≡ measured_at read B at (limit B end) size }
-    ensures fits { let B = S.Source.bytes source.now in IfOk result (λ e. (e ≡ at + size) × (e ≤ end) × (e ≤ length B)) }
-    ensures exact { let B = S.Source.bytes source.now in let M = K.EntryKind.members kind.now in Reads (Measured M 0 size) B at (limit B end) result }
-    ensures first { let B = S.Source.bytes source.now in let read = K.EntryKind.reading kind.now in let M = K.EntryKind.members kind.now in MeasuredFault read M B at (limit B end) size result }
+    ensures read { result ≡ measured_at (K.reading kind.now) (held holder.now) at holder.now.end size }
+    ensures fits { Ends (at + size) holder.now.end result }
+    ensures exact { Reads (Measured (K.members kind.now) 0 size) (held holder.now) at holder.now.end result }
+    ensures first { MeasuredFault (K.reading kind.now) (K.members kind.now) (held holder.now) at holder.now.end size result }
 {
-    let stop = bytes_at(source, at, end, size)?;
-    let behind = filling(source, kind, at, stop)?;
-    Ok(behind)
+    let stop = holder.bytes_at(at, size)?;
+    Ok(filling(&holder.up_to(stop), kind, at)?)
 }
 
 // The place behind a list: its total in four bytes, and then entries that fill so many bytes.
 pub fn list_at<S: Source, K: EntryKind>(
-    source: &S,
+    holder: &Holder<S>,
     kind: &K,
     at: u64,
-    end: u64,
 ) -> Result<u64, BlockFault>
-    ensures read { let B = S.Source.bytes source.now in let read = K.EntryKind.reading kind.now in result ≡ list_at read B at (limit B end) }
-    ensures fits { let B = S.Source.bytes source.now in IfOk result (λ e. (e ≡ at + 4 + le (part B at 4)) × (e ≤ end) × (e ≤ length B)) }
+    ensures read { result ≡ list_at (K.reading kind.now) (held holder.now) at holder.now.end }
+    ensures fits { Ends (at + 4 + le (part (held holder.now) at 4)) holder.now.end result }
 {
-    let total = number_at(source, at, end, FOUR)?;
-    let behind = measured(source, kind, at + 4, end, total)?;
-    Ok(behind)
+    let total = holder.number_at(at, FOUR)?;
+    measured(holder, kind, at + 4, total)
 }

@@ -1,19 +1,19 @@
 // Texts.
-ghost use Rattle.std.specs.Prelude.{◌≡◌, ◌+◌, ◌≤◌, length, IfOk};
+ghost use Rattle.std.specs.Prelude.{◌≡◌, ◌+◌};
+ghost use Rattle.awd_field.specs.Holders.{held, Ends};
 ghost use Rattle.awd_source.specs.Bytes.{le, part};
-ghost use Rattle.awd_field.specs.Fields.{limit};
-ghost use Rattle.awd_format.specs.Shapes.{read_of, text};
+ghost use Rattle.awd_format.specs.Shapes.{text};
+ghost use Rattle.awd_format.specs.Readings.{read_in};
 
 use awd_block_fault::BlockFault;
-use awd_field::{TWO, bytes_at, number_at};
+use awd_field::{Holder, TWO};
 use awd_source::Source;
 
 // The place behind a text: its length in two bytes, and then its bytes.
-pub fn text_at<S: Source>(source: &S, at: u64, end: u64) -> Result<u64, BlockFault>
-    ensures read { let B = S.Source.bytes source.now in result ≡ read_of text B at (limit B end) }
-    ensures fits { let B = S.Source.bytes source.now in IfOk result (λ e. (e ≡ at + 2 + le (part B at 2)) × (e ≤ end) × (e ≤ length B)) }
+pub fn text_at<S: Source>(holder: &Holder<S>, at: u64) -> Result<u64, BlockFault>
+    ensures read { result ≡ read_in text holder.now at }
+    ensures fits { Ends (at + 2 + le (part (held holder.now) at 2)) holder.now.end result }
 {
-    let size = number_at(source, at, end, TWO)?;
-    let behind = bytes_at(source, at + 2, end, size)?;
-    Ok(behind)
+    let size = holder.number_at(at, TWO)?;
+    Ok(holder.bytes_at(at + 2, size)?)
 }

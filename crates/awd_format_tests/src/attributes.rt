@@ -1,5 +1,6 @@
 // User attributes: their types, what a reader hands out, and the values of numbers.
 use awd_attributes::{AttributeReader, Value, user_list_at};
+use awd_field::Holder;
 use awd_source::Run;
 use awd_value::{Number, ValueType};
 use std::test::Fail;
@@ -15,36 +16,30 @@ const LIST: [u8; 34] = [
 fn walk(rt: HostRuntime) -> Result<(), Fail> {
     let mut reader = AttributeReader::new(&LIST);
     let Ok(Some(a)) = reader.next() else {
-        assert!(rt; false);
-        return Ok(());
+        return Err(Fail::new("another answer"));
     };
     assert_eq!(rt; (a.namespace, a.value_type.number()), (1, 2));
     assert!(rt; a.key == b"ab".as_slice());
     let Value::Number(number) = a.value else {
-        assert!(rt; false);
-        return Ok(());
+        return Err(Fail::new("another answer"));
     };
     assert!(rt; number == &LIST[10..12]);
     let Ok(Some(b)) = reader.next() else {
-        assert!(rt; false);
-        return Ok(());
+        return Err(Fail::new("another answer"));
     };
     assert_eq!(rt; (b.namespace, b.value_type.number()), (0, 31));
     assert!(rt; b.key.is_empty());
     let Value::Text(text) = b.value else {
-        assert!(rt; false);
-        return Ok(());
+        return Err(Fail::new("another answer"));
     };
     assert!(rt; text == b"hi".as_slice());
     let Ok(Some(c)) = reader.next() else {
-        assert!(rt; false);
-        return Ok(());
+        return Err(Fail::new("another answer"));
     };
     assert_eq!(rt; (c.namespace, c.value_type.number()), (2, 32));
     assert!(rt; c.key == b"k".as_slice());
     let Value::Raw(raw) = c.value else {
-        assert!(rt; false);
-        return Ok(());
+        return Err(Fail::new("another answer"));
     };
     assert!(rt; raw == &LIST[31..34]);
     assert!(rt; matches!(reader.next(), Ok(None)));
@@ -62,8 +57,7 @@ fn faults_stay(rt: HostRuntime) -> Result<(), Fail> {
     assert!(rt; matches!(reader.next(), Ok(Some(_))));
     for _ in 0..3 {
         let Err(fault) = reader.next() else {
-            assert!(rt; false);
-            return Ok(());
+            return Err(Fail::new("another answer"));
         };
         assert_eq!(rt;
             (fault.cause.number(), fault.place, fault.index),
@@ -75,13 +69,13 @@ fn faults_stay(rt: HostRuntime) -> Result<(), Fail> {
     memory[6] = 200;
     let mut reader = AttributeReader::new(&memory);
     let Err(fault) = reader.next() else {
-        assert!(rt; false);
-        return Ok(());
+        return Err(Fail::new("another answer"));
     };
     assert_eq!(rt;
         (fault.cause.number(), fault.place, fault.index),
         (13, 6, Some(0))
     );
+    assert_eq!(rt; (fault.block, fault.layer.number()), (0, 3));
     Ok(())
 }
 
@@ -91,11 +85,12 @@ fn in_a_list(rt: HostRuntime) -> Result<(), Fail> {
     let mut memory: [u8; 40] = [0; 40];
     memory[2] = 34;
     memory[6..40].copy_from_slice(&LIST);
-    assert!(rt; matches!(user_list_at(&Run::new(&memory), 2, 40), Ok(40)));
+    let run = Run::new(&memory);
+    assert!(rt; matches!(user_list_at(&Holder::new(&run, 40), 2), Ok(40)));
     memory[22] = 3;
-    let Err(fault) = user_list_at(&Run::new(&memory), 2, 40) else {
-        assert!(rt; false);
-        return Ok(());
+    let run = Run::new(&memory);
+    let Err(fault) = user_list_at(&Holder::new(&run, 40), 2) else {
+        return Err(Fail::new("another answer"));
     };
     // the text takes a byte more, so the third attribute begins a byte later: its key's length is read as 0 + 256 × 107
     let whole = fault.in_block(7);
@@ -107,49 +102,49 @@ fn in_a_list(rt: HostRuntime) -> Result<(), Fail> {
     Ok(())
 }
 
-// Type and bytes; the case of the value, as 1 signed, 2 unsigned, 5 yes or no, 0 none, and the value.
-const VALUES: [(u8, &[u8], u8, i64); 24] = [
-    (1, &[127], 1, 127),
-    (1, &[128], 1, -128),
-    (1, &[255], 1, -1),
-    (2, &[255, 127], 1, 32_767),
-    (2, &[0, 128], 1, -32_768),
-    (3, &[255, 255, 255, 127], 1, 2_147_483_647),
-    (3, &[0, 0, 0, 128], 1, -2_147_483_648),
-    (3, &[254, 255, 255, 255], 1, -2),
-    (4, &[255], 2, 255),
-    (5, &[1, 2], 2, 513),
-    (6, &[255, 255, 255, 255], 2, 4_294_967_295),
-    (21, &[0], 5, 0),
-    (21, &[1], 5, 1),
-    (21, &[128], 5, 1),
-    (22, &[1, 2, 3, 4], 2, 67_305_985),
-    (23, &[1, 0, 0, 0], 2, 1),
-    (31, &[65], 0, 0),
-    (32, &[65, 66, 67, 68], 0, 0),
-    (1, &[], 0, 0),
-    (1, &[1, 2], 0, 0),
-    (3, &[1, 2, 3], 0, 0),
-    (7, &[0, 0, 0], 0, 0),
-    (8, &[0, 0, 0, 0], 0, 0),
-    (21, &[0, 0], 0, 0),
+// Type and bytes, and what they say.
+const VALUES: [(u8, &[u8], Option<Number>); 24] = [
+    (1, &[127], Some(Number::Signed(127))),
+    (1, &[128], Some(Number::Signed(-128))),
+    (1, &[255], Some(Number::Signed(-1))),
+    (2, &[255, 127], Some(Number::Signed(32_767))),
+    (2, &[0, 128], Some(Number::Signed(-32_768))),
+    (
+        3,
+        &[255, 255, 255, 127],
+        Some(Number::Signed(2_147_483_647)),
+    ),
+    (3, &[0, 0, 0, 128], Some(Number::Signed(-2_147_483_648))),
+    (3, &[254, 255, 255, 255], Some(Number::Signed(-2))),
+    (4, &[255], Some(Number::Unsigned(255))),
+    (5, &[1, 2], Some(Number::Unsigned(513))),
+    (
+        6,
+        &[255, 255, 255, 255],
+        Some(Number::Unsigned(4_294_967_295)),
+    ),
+    (21, &[0], Some(Number::YesNo(false))),
+    (21, &[1], Some(Number::YesNo(true))),
+    (21, &[128], Some(Number::YesNo(true))),
+    (22, &[1, 2, 3, 4], Some(Number::Unsigned(67_305_985))),
+    (23, &[1, 0, 0, 0], Some(Number::Unsigned(1))),
+    (31, &[65], None),
+    (32, &[65, 66, 67, 68], None),
+    (1, &[], None),
+    (1, &[1, 2], None),
+    (3, &[1, 2, 3], None),
+    (7, &[0, 0, 0], None),
+    (8, &[0, 0, 0, 0], None),
+    (21, &[0, 0], None),
 ];
 
 #[test]
 fn values(rt: HostRuntime) -> Result<(), Fail> {
-    for (number, bytes, case, value) in VALUES {
-        let Some(value_type) = ValueType::of(number) else {
-            assert!(rt; false);
-            return Ok(());
+    for (number, bytes, expected) in VALUES {
+        let Ok(value_type) = ValueType::try_from(number) else {
+            return Err(Fail::new("no such type"));
         };
-        let found = match value_type.value(bytes) {
-            None => (0, 0),
-            Some(Number::Signed(n)) => (1, i64::from(n)),
-            Some(Number::Unsigned(n)) => (2, i64::from(n)),
-            Some(Number::YesNo(yes)) => (5, i64::from(yes)),
-            Some(_) => (9, 0),
-        };
-        assert_eq!(rt; found, (case, value), "{}", number);
+        assert_eq!(rt; value_type.value(bytes), expected, "{}", number);
     }
     Ok(())
 }

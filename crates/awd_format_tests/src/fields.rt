@@ -1,75 +1,72 @@
 // Numbers, texts, lists and runs. The kitchen is the document of three blocks that awdlist has for its example: its second block, a
 // container, has its name at byte 86, its properties at 89 and its user list at 93, and ends at 97.
 use awd_attributes::{NumericAttribute, properties_at, user_list_at};
-use awd_block_fault::{BlockFault, FieldFault};
+use awd_block_fault::BlockFault;
 use awd_callers::sheets_at;
-use awd_field::{NumberSize, bytes_at, number_at};
+use awd_field::{FOUR, Holder, NumberSize, ONE, TWO};
 use awd_format::{counted, measured, text_at};
 use awd_source::{Run, Window};
 
-// What a reading answers: the place behind, or cause and place of a field's fault, or these and the index of an entry's.
+// What a reading answers: the place behind, or cause and place of a field's fault in a body, or these and the index of an entry's.
 type Answer = Result<u64, (u8, u64, Option<u64>)>;
 
-fn answer(read: Result<u64, BlockFault>) -> Answer {
-    match read {
-        Ok(behind) => Ok(behind),
-        Err(BlockFault::Entry(entry)) => {
-            Err((
-                entry.field.cause.number(),
-                entry.field.place,
-                Some(entry.index),
-            ))
-        }
-        Err(BlockFault::Header(field)) => Err((0, field.place, None)),
-        Err(BlockFault::Field(field)) => Err((field.cause.number(), field.place, None)),
-    }
+// The same with all five parts of the fault: cause, place, block, layer and index.
+type Told = Result<u64, (u8, u64, u64, u8, Option<u64>)>;
+
+fn told<F>(read: Result<u64, F>) -> Told
+where
+    BlockFault: From<F>,
+{
+    read.map_err(|fault| {
+        let f = BlockFault::from(fault).in_block(0);
+        (
+            f.cause.number(),
+            f.place,
+            f.block,
+            f.layer.number(),
+            f.index,
+        )
+    })
 }
 
-fn place_or_fault(read: Result<u64, FieldFault>) -> Answer {
-    match read {
-        Ok(value) => Ok(value),
-        Err(field) => Err((field.cause.number(), field.place, None)),
-    }
+fn in_body(answer: Answer) -> Told {
+    answer.map_err(|(cause, place, index)| {
+        let layer = if index.is_some() { 3 } else { 2 };
+        (cause, place, 0, layer, index)
+    })
 }
 
 // Size and place of a number in the bytes 1 to 9 and its holder's end; its value.
-const NUMBERS: [(u64, u64, u64, Answer); 14] = [
-    (1, 0, 9, Ok(1)),
-    (2, 0, 9, Ok(513)),
-    (3, 0, 9, Ok(197_121)),
-    (4, 0, 9, Ok(67_305_985)),
-    (5, 0, 9, Ok(21_542_142_465)),
-    (6, 0, 9, Ok(6_618_611_909_121)),
-    (7, 0, 9, Ok(1_976_943_448_883_713)),
-    (8, 0, 9, Ok(578_437_695_752_307_201)),
-    (2, 7, 9, Ok(2312)),
-    (2, 7, 10, Ok(2312)),
-    (2, 7, 8, Err((10, 7, None))),
-    (2, 8, 9, Err((10, 8, None))),
-    (1, 9, u64::MAX, Err((10, 9, None))),
-    (1, u64::MAX, u64::MAX, Err((10, u64::MAX, None))),
+const NUMBERS: [(NumberSize, u64, u64, Answer); 14] = [
+    (ONE, 0, 9, Ok(1)),
+    (TWO, 0, 9, Ok(513)),
+    (NumberSize { bytes: 3 }, 0, 9, Ok(197_121)),
+    (FOUR, 0, 9, Ok(67_305_985)),
+    (NumberSize { bytes: 5 }, 0, 9, Ok(21_542_142_465)),
+    (NumberSize { bytes: 6 }, 0, 9, Ok(6_618_611_909_121)),
+    (NumberSize { bytes: 7 }, 0, 9, Ok(1_976_943_448_883_713)),
+    (NumberSize { bytes: 8 }, 0, 9, Ok(578_437_695_752_307_201)),
+    (TWO, 7, 9, Ok(2312)),
+    (TWO, 7, 10, Ok(2312)),
+    (TWO, 7, 8, Err((10, 7, None))),
+    (TWO, 8, 9, Err((10, 8, None))),
+    (ONE, 9, u64::MAX, Err((10, 9, None))),
+    (ONE, u64::MAX, u64::MAX, Err((10, u64::MAX, None))),
 ];
 
 #[test]
 fn numbers(rt: HostRuntime) {
     let memory: [u8; 9] = [1, 2, 3, 4, 5, 6, 7, 8, 9];
     let run = Run::new(&memory);
-    for (bytes, at, end, expected) in NUMBERS {
-        if 1 <= bytes && bytes <= 8 {
-            let found = number_at(&run, at, end, NumberSize { bytes });
-            assert_eq!(rt; place_or_fault(found), expected, "{}", at);
-        }
+    for (size, at, end, expected) in NUMBERS {
+        let found = Holder::new(&run, end).number_at(at, size);
+        assert_eq!(rt; told(found), in_body(expected), "{}", at);
     }
     // the same number by way of a window: places 3 to 6
     let window = Window::new(run, 3, 4);
-    assert_eq!(rt;
-        place_or_fault(number_at(&window, 1, 9, NumberSize { bytes: 2 })),
-        Ok(1541)
-    );
-    assert_eq!(rt;
-        place_or_fault(number_at(&window, 3, 9, NumberSize { bytes: 2 })),
-        Err((10, 3, None))
-    );
+    let holder = Holder::new(&window, 9);
+    assert_eq!(rt; told(holder.number_at(1, TWO)), in_body(Ok(1541)));
+    assert_eq!(rt; told(holder.number_at(3, TWO)), in_body(Err((10, 3, None))));
 }
 
 // Place, holder's end and size of bytes in a source of 9; the place behind them. No bytes at all fit at the very end.
@@ -90,8 +87,8 @@ fn skips(rt: HostRuntime) {
     let run = Run::new(&memory);
     for (at, end, size, expected) in SKIPS {
         assert_eq!(rt;
-            place_or_fault(bytes_at(&run, at, end, size)),
-            expected,
+            told(Holder::new(&run, end).bytes_at(at, size)),
+            in_body(expected),
             "{}",
             at
         );
@@ -106,13 +103,20 @@ fn lists_of_the_kitchen(rt: HostRuntime) {
     let mut memory: [u8; 97] = [0; 97];
     memory[86..97].copy_from_slice(&TAIL);
     let run = Run::new(&memory);
-    assert_eq!(rt; answer(text_at(&run, 86, 97)), Ok(89));
-    assert_eq!(rt; answer(properties_at(&run, 89, 97)), Ok(93));
-    assert_eq!(rt; answer(user_list_at(&run, 93, 97)), Ok(97));
+    let body = Holder::new(&run, 97);
+    assert_eq!(rt; told(text_at(&body, 86)), in_body(Ok(89)));
+    assert_eq!(rt; told(properties_at(&body, 89)), in_body(Ok(93)));
+    assert_eq!(rt; told(user_list_at(&body, 93)), in_body(Ok(97)));
     // a size of 62 in place of 63 ends the body at 96: the total of the user list does not fit
-    assert_eq!(rt; answer(user_list_at(&run, 93, 96)), Err((10, 93, None)));
-    assert_eq!(rt; answer(text_at(&run, 86, 87)), Err((10, 86, None)));
-    assert_eq!(rt; answer(text_at(&run, 86, 88)), Err((10, 88, None)));
+    let shorter = Holder::new(&run, 96);
+    assert_eq!(rt;
+        told(user_list_at(&shorter, 93)),
+        in_body(Err((10, 93, None)))
+    );
+    let no_length = Holder::new(&run, 87);
+    assert_eq!(rt; told(text_at(&no_length, 86)), in_body(Err((10, 86, None))));
+    let no_text = Holder::new(&run, 88);
+    assert_eq!(rt; told(text_at(&no_text, 86)), in_body(Err((10, 88, None))));
 }
 
 // Three numeric attributes, of 2, 0 and 1 bytes, from byte 4 on: they end at 12, 18 and 25. Before them their total, 21.
@@ -146,26 +150,26 @@ const MEASURED: [(u64, Answer); 10] = [
 #[test]
 fn runs(rt: HostRuntime) {
     let run = Run::new(&PROPERTIES);
+    let holder = Holder::new(&run, 25);
     for (count, expected) in COUNTED {
-        let found = match counted(&run, &NumericAttribute, 4, 25, count) {
-            Ok(behind) => Ok(behind),
-            Err(entry) => Err((
-                entry.field.cause.number(),
-                entry.field.place,
-                Some(entry.index),
-            )),
-        };
-        assert_eq!(rt; found, expected, "{}", count);
+        let found = counted(&holder, &NumericAttribute, 4, count);
+        assert_eq!(rt; told(found), in_body(expected), "{}", count);
     }
+}
+
+#[test]
+fn measured_runs(rt: HostRuntime) {
+    let run = Run::new(&PROPERTIES);
+    let holder = Holder::new(&run, 25);
     for (size, expected) in MEASURED {
         assert_eq!(rt;
-            answer(measured(&run, &NumericAttribute, 4, 25, size)),
-            expected,
+            told(measured(&holder, &NumericAttribute, 4, size)),
+            in_body(expected),
             "{}",
             size
         );
     }
-    assert_eq!(rt; answer(properties_at(&run, 0, 25)), Ok(25));
+    assert_eq!(rt; told(properties_at(&holder, 0)), in_body(Ok(25)));
 }
 
 // The total does not count itself; if it did, 25 would be right.
@@ -173,9 +177,11 @@ fn runs(rt: HostRuntime) {
 fn total(rt: HostRuntime) {
     let mut memory = PROPERTIES;
     memory[0] = 25;
+    let run = Run::new(&memory);
+    let holder = Holder::new(&run, 25);
     assert_eq!(rt;
-        answer(properties_at(&Run::new(&memory), 0, 25)),
-        Err((10, 4, None))
+        told(properties_at(&holder, 0)),
+        in_body(Err((10, 4, None)))
     );
 }
 
@@ -186,10 +192,14 @@ fn outermost_index(rt: HostRuntime) {
     let mut memory: [u8; 58] = [0; 58];
     memory[0..25].copy_from_slice(&PROPERTIES);
     memory[29..54].copy_from_slice(&PROPERTIES);
-    assert_eq!(rt; answer(sheets_at(&Run::new(&memory), 0, 58, 2)), Ok(58));
+    let run = Run::new(&memory);
+    let holder = Holder::new(&run, 58);
+    assert_eq!(rt; told(sheets_at(&holder, 0, 2)), in_body(Ok(58)));
     memory[29] = 20;
+    let run = Run::new(&memory);
+    let holder = Holder::new(&run, 58);
     assert_eq!(rt;
-        answer(sheets_at(&Run::new(&memory), 0, 58, 2)),
-        Err((10, 53, Some(1)))
+        told(sheets_at(&holder, 0, 2)),
+        in_body(Err((10, 53, Some(1))))
     );
 }

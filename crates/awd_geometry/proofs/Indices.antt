@@ -1,53 +1,39 @@
--- Indices of 16 bits, one at a time.
-use Rattle.std.proofs.Common.{◌≡◌, ℕ, ◌+◌, ◌*◌, ◌<◌, ◌≤◌, List, [], ◌∷◌, length, get_or, take, drop, Some, None, Option, sym, refl, ap, ◌∙◌, arith, length-drop}
-use Rattle.std.proofs.lemmas.List.{drop_more}
+-- The first index of 16 bits that is not below a limit.
+use Rattle.std.proofs.Common.{◌≡◌, ℕ, zero, suc, ◌+◌, ◌*◌, ◌/◌, ◌<◌, ◌≤◌, List, [], ◌∷◌, length, Some, None, Option, MatchOption, sym, refl, ap, ◌∙◌, arith}
 use Rattle.std.proofs.lemmas.Bool.{cond-true, cond-false, lt-ltb, le-ltb}
 use Rattle.std.specs.Option.{option_map}
 use Rattle.awd_source.specs.Bytes.{le, part}
 use Rattle.awd_geometry.specs.Flaws.{first_not_below}
 
--- what is found in the rest, from a place on
-abbrev pub found_from : ℕ → List ℕ → ℕ → Option ℕ
-found_from limit m p = option_map (λ q. q + p) (first_not_below limit (drop p m))
+-- index k of some bytes
+abbrev pub index : List ℕ → ℕ → ℕ
+index m k = le (part m (2 * k) 2)
 
-two : (m : List ℕ) (p : ℕ) → p + 1 < length m → drop p m ≡ get_or m p 0 ∷ get_or m (p + 1) 0 ∷ drop (p + 1 + 1) m
-two m p h = let lt : p < length m = omega arith in drop_more m p 0 lt ∙ ap (λ x. get_or m p 0 ∷ x) (drop_more m (p + 1) 0 h)
+later : (a b : ℕ) (bs : List ℕ) (k : ℕ) → index (a ∷ b ∷ bs) (suc k) ≡ index bs k
+later a b bs k = let e : 2 * suc k ≡ suc (suc (2 * k)) = omega arith in ap (λ x. le (part (a ∷ b ∷ bs) x 2)) e
 
-spelled : (m : List ℕ) (p v : ℕ) → p + 1 < length m → v ≡ le (part m p 2) → v ≡ get_or m p 0 + 256 * get_or m (p + 1) 0
-spelled m p v h is = let e = ap (λ x. le (take 2 x)) (two m p h) in omega (arith, is, e)
+module _ (limit : ℕ) where
+  none_is : (m : List ℕ) → ((j : ℕ) → 2 * j + 1 < length m → index m j < limit) → None ≡ first_not_below limit m
+  none_is [] small = refl
+  none_is (a ∷ []) small = refl
+  none_is (a ∷ b ∷ bs) small =
+      let first = small 0 (omega arith) in
+      let rest = none_is bs (λ j h. omega (arith, h, small (suc j) (omega (arith, h)), later a b bs j)) in
+      sym (cond-true _ _ _ (lt-ltb (a + 256 * b) limit (omega (arith, first))) ∙ ap (option_map (λ p. p + 2)) (sym rest))
 
-moved : (o : Option ℕ) (p q : ℕ) → q ≡ p + 2 → option_map (λ x. x + q) o ≡ option_map (λ x. x + p) (option_map (λ x. x + 2) o)
-moved None p q is = refl
-moved (Some x) p q is = let e : x + q ≡ x + 2 + p = omega arith in ap Some e
+  first_is : (m : List ℕ) (k : ℕ) → 2 * k + 1 < length m → limit ≤ index m k → ((j : ℕ) → j < k → index m j < limit) → Some (2 * k) ≡ first_not_below limit m
+  first_is [] k h large small = absurd (omega (arith, h))
+  first_is (a ∷ []) k h large small = absurd (omega (arith, h))
+  first_is (a ∷ b ∷ bs) zero h large small = sym (cond-false _ _ _ (le-ltb (a + 256 * b) limit (omega (arith, large))))
+  first_is (a ∷ b ∷ bs) (suc k) h large small =
+      let first = small 0 (omega arith) in
+      let rest = first_is bs k (omega (arith, h)) (omega (arith, large, later a b bs k)) (λ j l. omega (arith, l, small (suc j) (omega (arith, l)), later a b bs j)) in
+      let two : 2 * k + 2 ≡ 2 * suc k = omega arith in
+      sym (cond-true _ _ _ (lt-ltb (a + 256 * b) limit (omega (arith, first))) ∙ ap (option_map (λ p. p + 2)) (sym rest) ∙ ap Some two)
 
-pub at-start : (limit : ℕ) (m : List ℕ) → found_from limit m 0 ≡ first_not_below limit m
-at-start limit m = all (first_not_below limit m)
-  where
-    all : (o : Option ℕ) → option_map (λ q. q + 0) o ≡ o
-    all None = refl
-    all (Some x) = let e : x + 0 ≡ x = omega arith in ap Some e
-
-module _ (limit : ℕ) (m : List ℕ) (p v : ℕ) (h : p + 1 < length m) (is : v ≡ le (part m p 2)) where
-  pub too_large : limit ≤ v → found_from limit m p ≡ Some p
-  too_large large =
-      let e = ap (λ x. option_map (λ q. q + p) (first_not_below limit x)) (two m p h) in
-      let no' = le-ltb (get_or m p 0 + 256 * get_or m (p + 1) 0) limit (omega (arith, spelled m p v h is)) in
-      let z : 0 + p ≡ p = omega arith in
-      e ∙ ap (option_map (λ q. q + p)) (cond-false _ _ _ no') ∙ ap Some z
-
-  pub below-limit : (q : ℕ) → q ≡ p + 2 → v < limit → found_from limit m q ≡ found_from limit m p
-  below-limit q next small =
-      let e = ap (λ x. option_map (λ q. q + p) (first_not_below limit x)) (two m p h) in
-      let yes' = lt-ltb (get_or m p 0 + 256 * get_or m (p + 1) 0) limit (omega (arith, spelled m p v h is)) in
-      let n : q ≡ p + 1 + 1 = omega arith in
-      sym (e ∙ ap (option_map (λ q. q + p)) (cond-true _ _ _ yes')
-      ∙ sym (ap (λ x. option_map (λ y. y + q) (first_not_below limit (drop x m))) n ∙ moved (first_not_below limit (drop (p + 1 + 1) m)) p q next))
-
--- less than a whole index is left
-pub none_left : (limit : ℕ) (m : List ℕ) (p : ℕ) → length m ≤ p + 1 → found_from limit m p ≡ None
-none_left limit m p few = ap (option_map (λ q. q + p)) (none (drop p m) (rw length-drop (omega arith)))
-  where
-    none : (xs : List ℕ) → length xs ≤ 1 → first_not_below limit xs ≡ None
-    none [] l = refl
-    none (a ∷ []) l = refl
-    none (a ∷ b ∷ xs) l = absurd (omega arith)
+  pub is_first : (m : List ℕ) (n : ℕ) → n ≡ length m → (o : Option ℕ)
+      → MatchOption o ((k : ℕ) → 0 ≤ k → k < n / 2 → index m k < limit)
+      (λ i. (0 ≤ i) × (i < n / 2) × (limit ≤ index m i) × ((k : ℕ) → 0 ≤ k → k < i → index m k < limit))
+      → option_map (λ k. 2 * k) o ≡ first_not_below limit m
+  is_first m n long None small = none_is m (λ k h. small k (omega arith) (omega (arith, h, long)))
+  is_first m n long (Some i) is = first_is m i (omega (arith, is.1, long)) is.2 (λ k. is.3 k (omega arith))

@@ -1,63 +1,34 @@
 -- A header is accepted exactly where the document is lawful, and else its first broken rule is told.
-use Rattle.std.proofs.Common.{◌≡◌, ℕ, ◌+◌, ◌≤◌, List, [], ◌∷◌, length, get_or, take, Ok, Err, Result, sym, refl, ap, ◌∙◌, inl, inr, ⊎_elim, arith}
-use Rattle.std.proofs.lemmas.List.{get_or-take}
-use Rattle.std.proofs.lemmas.Bool.{leb-true, le-leb, eqb-true, eq-eqb, or_cases, or_left, or_right}
+use Rattle.std.proofs.Common.{rules as std_rules, ◌≡◌, ℕ, Bool, true, false, cond, List, [], ◌∷◌, Ok, Err, Result, refl, ap, arith}
+use Rattle.std.proofs.lemmas.Bool.Decides.{nat_tests}
 use Rattle.awd_fault.specs.declared.Fault.{Fault}
-use Rattle.awd_fault.specs.Faults.{answer, report}
-use Rattle.awd_header.specs.Header.{judged, rules, body_length, Lawful, AllKept, Right}
-use Rattle.awd_header.proofs.Rules.{all-kept, judged-on, first-broken, apart}
+use Rattle.awd_fault.specs.Faults.{Report, answer, report}
+use Rattle.awd_header.specs.Header.{Rule, rule_fault, judged, rules, FirstBroken, Right}
 
-front-three : (b : List ℕ) → 3 ≤ length b → take 3 b ≡ get_or b 0 0 ∷ get_or b 1 0 ∷ get_or b 2 0 ∷ []
-front-three [] h = absurd (omega arith)
-front-three (x ∷ []) h = absurd (omega arith)
-front-three (x ∷ (y ∷ [])) h = absurd (omega arith)
-front-three (x ∷ (y ∷ (z ∷ b))) h = refl
-
-lawful-from : (b : List ℕ) → AllKept (rules b) → Lawful b
-lawful-from b (long, (short, (a, (w, (d, (version, (revision, (plain, (body, none))))))))) =
-    let l = leb-true 12 (length b) long in
+-- a rule in front that is kept
+behind : {rs : List Rule} {e : Report} (r : Rule) → r.kept ≡ true → FirstBroken rs e → FirstBroken (r ∷ rs) e
+behind r k b =
     record {
-      long = l;
-      short = leb-true (length b) 16777216 short;
-      magic = front-three b (omega arith) ∙ rw (eqb-true (get_or b 0 0) 65 a, eqb-true (get_or b 1 0) 87 w, eqb-true (get_or b 2 0) 68 d);
-      version = eqb-true (get_or b 3 0) 2 version;
-      revision = leb-true (get_or b 4 0) 1 revision;
-      plain = eqb-true (get_or b 7 0) 0 plain;
-      body = ⊎_elim inl (λ e. inr (eqb-true (12 + body_length b) (length b) e)) (or_cases _ _ body);
+      before = r ∷ b.before;
+      broken = b.broken;
+      after = b.after;
+      all = ap (λ l. r ∷ l) b.all;
+      kept = (k, b.kept);
+      not_kept = b.not_kept;
+      told = b.told;
     }
 
-kept_from : (b : List ℕ) → Lawful b → AllKept (rules b)
-kept_from b l = (
-  le-leb 12 (length b) l.long,
-  (
-    le-leb (length b) 16777216 l.short,
-    (
-      eq-eqb (get_or b 0 0) 65 (sym (get_or-take 3 b 0 0 (omega arith)) ∙ ap (λ t. get_or t 0 0) l.magic),
-      (
-        eq-eqb (get_or b 1 0) 87 (sym (get_or-take 3 b 1 0 (omega arith)) ∙ ap (λ t. get_or t 1 0) l.magic),
-        (
-          eq-eqb (get_or b 2 0) 68 (sym (get_or-take 3 b 2 0 (omega arith)) ∙ ap (λ t. get_or t 2 0) l.magic),
-          (
-            eq-eqb (get_or b 3 0) 2 l.version,
-            (
-              le-leb (get_or b 4 0) 1 l.revision,
-              (
-                eq-eqb (get_or b 7 0) 0 l.plain,
-                (⊎_elim (or_left _ _) (λ e. or_right _ _ (eq-eqb (12 + body_length b) (length b) e)) l.body, tt),
-              ),
-            ),
-          ),
-        ),
-      ),
-    ),
-  ),
-)
+broken-first : (k : Bool) (r : Rule) (rs : List Rule) (e : Report) → r.kept ≡ k → (Err e ≡ judged rs → FirstBroken rs e) → Err e ≡ cond k (judged rs) (Err (rule_fault r)) → FirstBroken (r ∷ rs) e
+broken-first true r rs e k next p = behind r k (next p)
+broken-first false r rs e k next p =
+    record { before = []; broken = r; after = rs; all = refl; kept = tt; not_kept = k; told = cc }
+
+first-broken : (rs : List Rule) (e : Report) → Err e ≡ judged rs → FirstBroken rs e
+first-broken [] e p = absurd cc
+first-broken (r ∷ rs) e p = broken-first r.kept r rs e refl (first-broken rs e) p
 
 -- a judgement is right
 pub judged-right : (r : Result (Unit {0}) Fault) (b : List ℕ) → answer r ≡ judged (rules b) → Right b r
-judged-right (Ok u) b e = record { lawful = lawful-from b (all-kept (rules b) e); first = tt }
+judged-right (Ok u) b e = record { lawful = grind (arith, nat_tests); first = tt }
 judged-right (Err f) b e =
-    record {
-      lawful = λ l. apart (sym (e ∙ judged-on (rules b) [] (kept_from b l)));
-      first = first-broken (rules b) (report f) e;
-    }
+    record { lawful = λ l. search std_rules; first = first-broken (rules b) (report f) e }

@@ -4,10 +4,11 @@
 
 ghost use Rattle.std.specs.Prelude.{◌≡◌, ◌<◌, slice_index};
 ghost use Rattle.awd_fault.specs.Faults.{answer};
-ghost use Rattle.awd_header.specs.Header.{bit, flags_of, body_length, header_of, judged, size_rules, magic_rules, field_rules, rules, opening, Right};
+ghost use Rattle.awd_header.specs.Header.{bit, header_of, judged, size_rules, magic_rules, field_rules, rules, opening, Right};
 ghost use Rattle.awd_header.specs.Widths.{width_size, width_of, sizes, widths_from, widths_of};
 
 use awd_fault::{Cause, Fault};
+use awd_field::{FOUR, TWO, spelled_at};
 use awd_source::Source;
 
 pub const HEADER_SIZE: u64 = 12;
@@ -36,13 +37,14 @@ pub enum Width {
 }
 
 impl Width {
+    // (`as` takes no type parameter, so each enum has this line of its own.)
     pub fn bytes(self) -> u8
         ensures { result ≡ width_size self }
     {
         self as u8
     }
 
-    // A set bit means 8 bytes, a clear one 4.
+    // A set bit means 8 bytes, a clear one 4. (No `From<bool>`: it would be public, and `Width::from(true)` says less.)
     fn of(wide: bool) -> Width
         ensures { width_size result ≡ width_of wide }
     {
@@ -91,7 +93,7 @@ impl Header {
         ensures { sizes result ≡ widths_of self.now.flags block_flags }
     {
         if bit_of(self.flags, 4) {
-            widths_from(block_flags as u16, 0)
+            widths_from(u16::from(block_flags), 0)
         } else {
             widths_from(self.flags, 1)
         }
@@ -100,42 +102,25 @@ impl Header {
 
 // The byte at a place, or 0 beyond the end.
 fn byte_or_zero<S: Source>(source: &S, at: u64) -> u8
-    ensures { result ≡ slice_index (S.Source.bytes source.now) at }
+    ensures { result ≡ slice_index (S.bytes source.now) at }
 {
     source.byte(at).unwrap_or(0)
 }
 
-fn flags_of<S: Source>(source: &S) -> u16
-    ensures { result ≡ flags_of (S.Source.bytes source.now) }
-{
-    u16::from_le_bytes([byte_or_zero(source, 5), byte_or_zero(source, 6)])
-}
-
-fn body_length<S: Source>(source: &S) -> u32
-    ensures { result ≡ body_length (S.Source.bytes source.now) }
-{
-    u32::from_le_bytes([
-        byte_or_zero(source, 8),
-        byte_or_zero(source, 9),
-        byte_or_zero(source, 10),
-        byte_or_zero(source, 11),
-    ])
-}
-
 // What the header bytes say, be they lawful or not.
 pub fn header_of<S: Source>(source: &S) -> Header
-    ensures { result ≡ header_of (S.Source.bytes source.now) }
+    ensures { result ≡ header_of (S.bytes source.now) }
 {
     Header {
         version: byte_or_zero(source, 3),
         revision: byte_or_zero(source, 4),
-        flags: flags_of(source),
+        flags: spelled_at(source, 5, TWO) as u16,
     }
 }
 
-// The magic string, byte by byte; the fault stands at the first that differs.
+// The magic string, byte by byte; the fault stands at the first that differs. (Tried as `position`: what is ensured stayed open.)
 fn check_magic<S: Source>(source: &S) -> Result<(), Fault>
-    ensures { answer result ≡ judged (magic_rules (S.Source.bytes source.now)) }
+    ensures { answer result ≡ judged (magic_rules (S.bytes source.now)) }
 {
     for (i, expected) in MAGIC.iter().enumerate() {
         if byte_or_zero(source, i as u64) != *expected {
@@ -147,7 +132,7 @@ fn check_magic<S: Source>(source: &S) -> Result<(), Fault>
 
 // The document's length.
 fn check_size<S: Source>(source: &S) -> Result<(), Fault>
-    ensures { answer result ≡ judged (size_rules (S.Source.bytes source.now)) }
+    ensures { answer result ≡ judged (size_rules (S.bytes source.now)) }
 {
     let length = source.length();
     if length < HEADER_SIZE {
@@ -161,18 +146,20 @@ fn check_size<S: Source>(source: &S) -> Result<(), Fault>
 
 // Version, revision, compression and body length, in the order of their bytes.
 fn check_fields<S: Source>(source: &S) -> Result<(), Fault>
-    ensures { answer result ≡ judged (field_rules (S.Source.bytes source.now)) }
+    ensures { answer result ≡ judged (field_rules (S.bytes source.now)) }
 {
-    if byte_or_zero(source, 3) != VERSION {
+    let header = header_of(source);
+    if header.version != VERSION {
         return Err(Fault::in_header(Cause::WrongVersion, 3));
     }
-    if byte_or_zero(source, 4) > LAST_REVISION {
+    if header.revision > LAST_REVISION {
         return Err(Fault::in_header(Cause::WrongVersion, 4));
     }
     if byte_or_zero(source, 7) != 0 {
         return Err(Fault::in_header(Cause::CompressedDocument, 7));
     }
-    if !bit_of(flags_of(source), 0) && HEADER_SIZE + body_length(source) as u64 != source.length() {
+    let body_length = spelled_at(source, 8, FOUR);
+    if !header.streaming() && HEADER_SIZE + body_length != source.length() {
         return Err(Fault::in_header(Cause::WrongBodyLength, 8));
     }
     Ok(())
@@ -180,8 +167,8 @@ fn check_fields<S: Source>(source: &S) -> Result<(), Fault>
 
 // All rules of the header, in order.
 fn check_header<S: Source>(source: &S) -> Result<(), Fault>
-    ensures value { answer result ≡ judged (rules (S.Source.bytes source.now)) }
-    ensures right { Right (S.Source.bytes source.now) result }
+    ensures value { answer result ≡ judged (rules (S.bytes source.now)) }
+    ensures right { Right (S.bytes source.now) result }
 {
     check_size(source)?;
     check_magic(source)?;
@@ -190,8 +177,8 @@ fn check_header<S: Source>(source: &S) -> Result<(), Fault>
 
 // Reads and judges the header of a document: what it says, or its first fault.
 pub fn read_header<S: Source>(source: &S) -> Result<Header, Fault>
-    ensures value { answer result ≡ opening (S.Source.bytes source.now) }
-    ensures right { Right (S.Source.bytes source.now) result }
+    ensures value { answer result ≡ opening (S.bytes source.now) }
+    ensures right { Right (S.bytes source.now) result }
 {
     check_header(source)?;
     Ok(header_of(source))

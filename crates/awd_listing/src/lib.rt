@@ -18,20 +18,22 @@ pub const MAX_INPUT: usize = 65_536;
 fn opened_line(heap: Global, header: Header, length: u64) -> Result<String, AllocError>
     ensures { IfOk result (λ text. string_bytes text ≡ opened_line header length) }
 {
-    let version = header.version;
-    let revision = header.revision;
-    let flags = header.flags;
-    format!(in heap; "AWD {version}.{revision} flags {flags} length {length}\n")
+    format!(in heap;
+        "AWD {}.{} flags {} length {length}\n",
+        header.version, header.revision, header.flags
+    )
 }
 
 // The line for a refusal.
 fn fault_line(heap: Global, fault: Fault) -> Result<String, AllocError>
     ensures { IfOk result (λ text. string_bytes text ≡ fault_line (report fault)) }
 {
-    let cause = fault.cause.number();
-    let place = fault.place;
-    let block = fault.block;
-    format!(in heap; "fault {cause} {place} {block}\n")
+    format!(in heap;
+        "fault {} {} {}\n",
+        fault.cause.number(),
+        fault.place,
+        fault.block
+    )
 }
 
 // The whole listing of an input.
@@ -39,6 +41,7 @@ pub fn listing(heap: Global, input: &[u8]) -> Result<String, AllocError>
     ensures { IfOk result (λ text. string_bytes text ≡ listing_of input.now) }
 {
     if input.len() > MAX_INPUT {
+        // tried as `format!` with the constant: what is ensured stayed open
         return String::from_str(heap, "input over 65536\n");
     }
     let mut session = Session::new(Run::new(input));

@@ -1,4 +1,4 @@
-pub mod Blank
+pub mod Kinds
 pub mod Sequence
 pub mod Addresses
 pub mod Lookups

@@ -1,17 +1,11 @@
 -- Which block has an ID, and how far a block is from the root. Assumes nothing.
-use Rattle.std.specs.Prelude.{◌≡◌, ℕ, zero, suc, ◌+◌, cond, List, [], ◌∷◌, Some, None, Option, ◌==◌}
-use Rattle.std.specs.List.{slice_get}
+use Rattle.std.specs.Prelude.{◌≡◌, ℕ, zero, suc, ◌+◌, cond, List, slice_get, position, Some, None, Option, ◌==◌}
 use Rattle.std.specs.Option.{option_and_then}
 use Rattle.awd_roster.specs.declared.record.Record.{Record}
 
--- the number of the first block with an ID, the first of these blocks being number i
-abbrev pub number_from : ℕ → ℕ → List Record → Option ℕ
-number_from id i [] = None
-number_from id i (r ∷ rs) = cond (r.id == id) (Some i) (number_from id (i + 1) rs)
-
--- the number of the block with an ID; temporary blocks have none of their own
+-- the number of the first block with an ID; temporary blocks have none of their own
 abbrev pub number_of : List Record → ℕ → Option ℕ
-number_of rs id = cond (id == 0) None (number_from id 0 rs)
+number_of rs id = cond (id == 0) None (position (λ r. r.id == id) rs)
 
 -- the address of a block's parent
 abbrev pub parent_of : List Record → ℕ → Option ℕ

@@ -2,9 +2,10 @@
 // This crate knows nothing of bytes, bodies or sessions.
 #![tactic(auto)]
 
+mod kind;
 mod record;
 mod roster;
 
+pub use kind::{BlockKind, UnknownKind};
 pub use record::{Record, Span, Target};
-pub use roster::calls::Earlier;
-pub use roster::{MAX_BLOCKS, Roster};
+pub use roster::{Earlier, MAX_BLOCKS, Roster};

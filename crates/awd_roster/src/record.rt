@@ -2,45 +2,35 @@
 ghost use Rattle.std.specs.Prelude.{◌≡◌};
 ghost use Rattle.awd_roster.specs.Addresses.{kinds_of, may_be_none, has};
 
+use crate::kind::BlockKind;
+
 // Bytes of the document by their place and their number.
-#[derive(Clone, Copy)]
+#[derive(Clone, Copy, PartialEq, Eq, Default, Debug)]
 pub struct Span {
     pub place: u64,
     pub length: u16,
 }
 
 // What a taken block tells.
-#[derive(Clone, Copy)]
+#[derive(Clone, Copy, PartialEq, Eq, Default, Debug)]
 pub struct Record {
-    // 0 for a temporary block
+    // as the file has it: 0 for a temporary block
     pub id: u32,
     pub namespace: u8,
+    // by its number: a block of any kind is taken, known or not
     pub kind: u8,
     // of the block's header
     pub place: u64,
     // of the block's body
     pub size: u32,
-    // the parent's address, 0 at the root; none where the block has no such field
+    // the parent's address as the file has it, 0 at the root; none where the block has no such field
     pub parent: Option<u32>,
     // the bytes of the name; none where the block has no such field
     pub name: Option<Span>,
 }
 
-impl Record {
-    // What a table has where no block is kept.
-    pub const BLANK: Record = Record {
-        id: 0,
-        namespace: 0,
-        kind: 0,
-        place: 0,
-        size: 0,
-        parent: None,
-        name: None,
-    };
-}
-
 // What an address is to name.
-#[derive(Clone, Copy)]
+#[derive(Clone, Copy, PartialEq, Eq, Debug)]
 pub enum Target {
     Parent,
     Geometry,
@@ -53,11 +43,17 @@ impl Target {
     pub fn allows(self, kind: u8) -> bool
         ensures { result ≡ has (kinds_of self) kind }
     {
+        let Ok(kind) = BlockKind::try_from(kind) else {
+            return false;
+        };
         match self {
-            Target::Parent => kind == 22 || kind == 23 || kind == 41,
-            Target::Geometry => kind == 1 || kind == 11,
-            Target::Material => kind == 81,
-            Target::Light => kind == 41,
+            Target::Parent => matches!(
+                kind,
+                BlockKind::Container | BlockKind::Mesh | BlockKind::Light
+            ),
+            Target::Geometry => matches!(kind, BlockKind::Geometry | BlockKind::Primitive),
+            Target::Material => kind == BlockKind::Material,
+            Target::Light => kind == BlockKind::Light,
         }
     }
 
@@ -65,9 +61,6 @@ impl Target {
     pub fn may_be_none(self) -> bool
         ensures { result ≡ may_be_none self }
     {
-        match self {
-            Target::Parent | Target::Material => true,
-            Target::Geometry | Target::Light => false,
-        }
+        matches!(self, Target::Parent | Target::Material)
     }
 }

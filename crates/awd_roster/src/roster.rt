@@ -1,21 +1,147 @@
-// The table of taken blocks.
-ghost use Rattle.std.specs.Prelude.{◌≡◌, ◌+◌, ◌≤◌, length, take};
-ghost use Rattle.awd_roster.specs.Sequence.{persistent};
+// The table of taken blocks, and what it answers.
+ghost use Rattle.std.specs.Prelude.{◌≡◌, ◌+◌, ◌≤◌, ◌==◌, List, [], length, slice_get, position, IfSome};
+ghost use Rattle.awd_roster.specs.declared.record.Record.{Record};
+ghost use Rattle.awd_roster.specs.Addresses.{named, lawful_address};
+ghost use Rattle.awd_roster.specs.Lookups.{number_of, path_of, Climbs};
+ghost use Rattle.awd_roster.specs.Sequence.{persistent, in_sequence};
+ghost use Rattle.awd_roster.specs.Table.{added};
 
-use crate::record::Record;
+use crate::record::{Record, Target};
+use arrayvec::ArrayVec;
+use std::marker::Model;
 
-pub mod calls;
+// The blocks before one that is being read.
+pub trait Earlier {
+    ghost records: { Self → List Record };
+
+    // Whether the next block may have an ID.
+    fn in_sequence(&self, id: u32) -> bool
+        ensures { result ≡ in_sequence (records self.now) id };
+
+    // Whether an address is lawful in the next block.
+    fn lawful(&self, target: Target, address: u32) -> bool
+        ensures { result ≡ lawful_address target (records self.now) address };
+}
+
+// Blocks that are only lent: they are the same.
+impl<'a, E: Earlier> Earlier for &'a E {
+    ghost records = { λ e. E.records e.now };
+
+    fn in_sequence(&self, id: u32) -> bool {
+        (**self).in_sequence(id)
+    }
+
+    fn lawful(&self, target: Target, address: u32) -> bool {
+        (**self).lawful(target, address)
+    }
+}
 
 pub const MAX_BLOCKS: usize = 512;
 
 // Records of blocks in the order in which they were taken, at most 512.
 #[derive(Drop)]
 pub struct Roster {
-    records: [Record; MAX_BLOCKS],
-    taken: usize,
+    records: ArrayVec<Record, MAX_BLOCKS>,
     // the ID of the next block that is not temporary
     next_id: u32,
-    ghost table: { length records ≡ 512 },
-    ghost room: { taken ≤ 512 },
-    ghost ids: { next_id ≡ persistent (take taken records) + 1 },
+}
+
+impl Model for Roster {
+    ghost Value = { List Record };
+
+    ghost view = { λ x. x.records.items };
+
+    ghost invariant = { λ x. x.next_id ≡ persistent x.records.items + 1 };
+}
+
+impl Roster {
+    // No blocks.
+    pub fn new() -> Roster
+        ensures { result ≡ [] }
+    {
+        Roster {
+            records: ArrayVec::new(),
+            next_id: 1,
+        }
+    }
+
+    pub fn count(&self) -> u64
+        ensures value { result ≡ length self.now }
+        ensures fits { result ≤ 512 }
+    {
+        self.records.len() as u64
+    }
+
+    // One block more; a full roster stays as it is.
+    pub fn add(&mut self, record: Record)
+        ensures { self.new ≡ added self.old «record» }
+    {
+        if self.records.try_push(record).is_ok() && record.id != 0 {
+            self.next_id += 1;
+        }
+    }
+
+    // The record of a block by its number.
+    pub fn record(&self, number: u64) -> Option<Record>
+        ensures { result ≡ slice_get self.now number }
+    {
+        self.records.get(number as usize).copied()
+    }
+
+    // The number of the block with an ID.
+    pub fn number_of(&self, id: u32) -> Option<u64>
+        ensures { result ≡ number_of self.now id }
+    {
+        if id == 0 {
+            return None;
+        }
+        self.first_with(id).map(|number| number as u64)
+    }
+
+    // The number of the first block with an ID, which may be 0. (Inside `number_of` what this chain gives stayed open.)
+    fn first_with(&self, id: u32) -> Option<usize>
+        ensures { result ≡ position (λ r. r.id == id) self.now }
+    {
+        self.records.iter().position(|r| r.id == id)
+    }
+
+    // Whether a block that may be named has an ID.
+    fn names(&self, target: Target, id: u32) -> bool
+        ensures { result ≡ named target id self.now }
+    {
+        self.records.iter().any(|r| r.id == id && r.namespace == 0 && target.allows(r.kind))
+    }
+
+    // How many parents lie between a block and the root; none where its parents do not lead there.
+    #[tactic(auto, using(crate::proofs::Climbs::step, crate::proofs::Climbs::path_climbs))]
+    pub fn path(&self, number: u64) -> Option<u64>
+        ensures value { result ≡ path_of self.now number }
+        ensures climbs { IfSome result (λ n. Climbs self.now number n) }
+    {
+        let mut at = number;
+        for passed in 0..=number {
+            let parent = self.record(at)?.parent?;
+            if parent == 0 {
+                return Some(passed);
+            }
+            at = self.number_of(parent)?;
+        }
+        None
+    }
+}
+
+impl Earlier for Roster {
+    ghost records = { λ r. r };
+
+    fn in_sequence(&self, id: u32) -> bool {
+        id == 0 || id == self.next_id
+    }
+
+    fn lawful(&self, target: Target, address: u32) -> bool {
+        if address == 0 {
+            target.may_be_none()
+        } else {
+            self.names(target, address)
+        }
+    }
 }

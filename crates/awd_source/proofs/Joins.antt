@@ -1,75 +1,73 @@
--- Bytes of joined pages, out of those of the run.
-use Rattle.std.proofs.Common.{◌≡◌, ℕ, zero, suc, ◌+◌, ◌-◌, ◌*◌, ◌/◌, ◌%◌, ◌<◌, ◌≤◌, Bool, true, false, cond, List, [], ◌∷◌, length, get_or, drop, Err, sym, refl, ap, ◌∙◌, mod-lt, zero-add, arith, length-append, length-drop, length-take}
+-- Bytes of joined pages, out of those of the run, and the first page outside it.
+use Rattle.std.proofs.Common.{◌≡◌, nat_lt, not, Some, None, ℕ, zero, suc, ◌+◌, ◌*◌, ◌/◌, ◌%◌, ◌<◌, ◌≤◌, Bool, List, [], ◌∷◌, drop, length, get_or, take, Err, refl, ap, ◌∙◌, mod-lt, arith, length-append, length-drop, length-take, append-nil}
 use native.Mathlib.Nat.{div-add-mod}
-use Rattle.std.specs.List.{flat_map}
-use Rattle.std.proofs.lemmas.Bool.{leb-true, le-leb, lt-leb, lt-ltb, le-ltb, cond-true, cond-false}
-use Rattle.std.proofs.lemmas.List.{get_or-take, get_or-drop, get_or_append_left, get_or-append_right}
-use Rattle.std.proofs.lemmas.List.Sums.{prefix_len-drop_yes, prefix_len-drop_no, prefix_len-drop_all}
+use Rattle.std.specs.List.{flat_map, position, position_or_len, prefix_len}
+use Rattle.std.proofs.lemmas.Bool.Decides.{nat_tests}
+use Rattle.std.proofs.lemmas.Grind.{common_steps, flat_map-append}
+use Rattle.std.proofs.lemmas.Bool.{leb-true, lt-ltb}
+use Rattle.std.proofs.lemmas.List.{get_or-take, get_or-drop, take_more, take_all}
+use Rattle.std.proofs.lemmas.List.Concat.{get_or-flat_map}
+use Rattle.std.proofs.lemmas.List.Sums.{prefix_len-le-length, prefix_len_passes}
 use Rattle.awd_source.specs.Bytes.{byte_at}
 use Rattle.awd_fault.specs.Faults.{of_call}
 use Rattle.awd_source.specs.Pages.{page, whole, whole_front, paged, filling}
 
--- where all pages of a list are whole, the first is, and so are the others
-first-whole : (w : Bool) (n m : ℕ) → cond w (1 + n) 0 ≡ suc m → (w ≡ true) × (n ≡ m)
-first-whole true n m e = (refl, omega arith)
-first-whole false n m e = absurd (omega arith)
+module _ (run ps : List ℕ) (inside : whole_front run ps ≡ length ps) where
+  page-inside : (k : ℕ) → k < length ps → 512 * get_or ps k 0 + 512 ≤ length run
+  page-inside k h = leb-true _ _ (prefix_len_passes (whole run) ps k 0 (omega arith))
 
-length-page : (run : List ℕ) (p : ℕ) → whole run p ≡ true → length (page run p) ≡ 512
-length-page run p w = let h = leb-true (512 * p + 512) (length run) w in simp (length-take, length-drop) (omega arith)
+  length-page : (k : ℕ) → k < length ps → length (page run (get_or ps k 0)) ≡ 512
+  length-page k h = let w = page-inside k h in simp (length-take, length-drop) (omega arith)
 
-module _ (run : List ℕ) where
-  pub length-joined : (ps : List ℕ) → whole_front run ps ≡ length ps → length (flat_map (page run) ps) ≡ 512 * length ps
-  length-joined [] e = refl
-  length-joined (p ∷ ps) e =
-      let w = first-whole (whole run p) (whole_front run ps) (length ps) e in
-      let a = length-page run p w.0 in
-      let b = length-joined ps w.1 in
-      let c = length-append (page run p) (flat_map (page run) ps) in
-      omega arith
+  -- the first n listed pages
+  length-joined : (n : ℕ) → n ≤ length ps → length (flat_map (page run) (take n ps)) ≡ 512 * n
+  length-joined zero h = refl
+  length-joined (suc n) h =
+      let before = length-joined n (omega arith) in
+      let last = length-page n h in
+      let one : suc n ≡ n + 1 = omega arith in
+      rw (one, take_more ps n 0 h, flat_map-append (page run) (take n ps) (get_or ps n 0 ∷ []), append-nil, length-append) (omega arith)
 
-  -- the byte r of the listed page q
-  pub joined_at : (ps : List ℕ) (q r : ℕ) → whole_front run ps ≡ length ps → q < length ps → r < 512 → (get_or (flat_map (page run) ps) (512 * q + r) 0 ≡ get_or run (512 * get_or ps q 0 + r) 0) × (512 * get_or ps q 0 + r < length run)
-  joined_at [] q r e h k = absurd (omega arith)
-  joined_at (p ∷ ps) zero r e h k =
-      let w = first-whole (whole run p) (whole_front run ps) (length ps) e in
-      let a = length-page run p w.0 in
-      let b = leb-true (512 * p + 512) (length run) w.0 in
-      let i : r < length (page run p) = omega arith in
-      (rw zero-add (get_or_append_left (page run p) (flat_map (page run) ps) 0 r i ∙ get_or-take 512 (drop (512 * p) run) r 0 k ∙ get_or-drop (512 * p) run r 0), omega arith)
-  joined_at (p ∷ ps) (suc q) r e h k =
-      let w = first-whole (whole run p) (whole_front run ps) (length ps) e in
-      let a = length-page run p w.0 in
-      let t = joined_at ps q r w.1 (omega arith) k in
-      let s : 512 * suc q + r - 512 ≡ 512 * q + r = omega arith in
-      (get_or-append_right (page run p) (flat_map (page run) ps) 512 (512 * suc q + r) 0 a (omega arith) ∙ rw s t.0, t.1)
-
-  module _ (ps : List ℕ) (size : ℕ) (inside : whole_front run ps ≡ length ps) (enough : size ≤ 512 * length ps) where
+  module _ (size : ℕ) (enough : size ≤ 512 * length ps) where
     pub length-paged : length (paged run ps size) ≡ size
-    length-paged = let j = length-joined ps inside in simp length-take (omega arith)
+    length-paged =
+        let all : take (length ps) ps ≡ ps = take_all (length ps) ps (omega arith) in
+        let joined = rw all at (length-joined (length ps) (omega arith)) in
+        simp length-take (omega arith)
 
+    -- the byte at a place is one of the page that is listed there
     pub paged-byte : (at : ℕ) → at < size → byte_at run (512 * get_or ps (at / 512) 0 + at % 512) ≡ byte_at (paged run ps size) at
     paged-byte at h =
         let d = div-add-mod at 512 in
         let m : at % 512 < 512 = mod-lt at (omega arith) in
         let q : at / 512 < length ps = omega arith in
-        let t = joined_at ps (at / 512) (at % 512) inside q m in
+        let p = get_or ps (at / 512) 0 in
+        let within = page-inside (at / 512) q in
+        let n = length-page (at / 512) q in
+        let before = length-joined (at / 512) (omega arith) in
+        let place : at ≡ length (flat_map (page run) (take (at / 512) ps)) + at % 512 = omega arith in
+        let byte : get_or (flat_map (page run) ps) at 0 ≡ get_or run (512 * p + at % 512) 0 =
+        ap (λ k. get_or (flat_map (page run) ps) k 0) place
+        ∙ get_or-flat_map (page run) ps (at / 512) (at % 512) 0 0 q (omega arith)
+        ∙ get_or-take 512 (drop (512 * p) run) (at % 512) 0 m
+        ∙ get_or-drop (512 * p) run (at % 512) 0 in
         let l : at < length (paged run ps size) = rw length-paged h in
-        let e : get_or (flat_map (page run) ps) at 0 ≡ get_or run (512 * get_or ps (at / 512) 0 + at % 512) 0 = ap (λ n. get_or (flat_map (page run) ps) n 0) (sym d) ∙ t.0 in
-        rw (lt-ltb at (length (paged run ps size)) l, lt-ltb (512 * get_or ps (at / 512) 0 + at % 512) (length run) t.1, get_or-take size (flat_map (page run) ps) at 0 h, e)
+        rw (lt-ltb at (length (paged run ps size)) l, lt-ltb (512 * p + at % 512) (length run) (omega arith), get_or-take size (flat_map (page run) ps) at 0 h, byte)
 
--- one listed page further, or no further
-module _ (run ps : List ℕ) (i : ℕ) (so_far : whole_front run ps ≡ i + whole_front run (drop i ps)) where
-  pub front-more : i < length ps → 512 * get_or ps i 0 + 512 ≤ length run → whole_front run ps ≡ i + 1 + whole_front run (drop (i + 1) ps)
-  front-more h w = let f = prefix_len-drop_yes (whole run) ps i 0 h (le-leb _ _ w) in omega arith
+-- whether page p is not wholly inside a run, as the program asks
+abbrev pub beyond : List ℕ → ℕ → Bool
+beyond run p = nat_lt (length run) (512 * p + 512)
 
-  pub front_ends : i < length ps → length run < 512 * get_or ps i 0 + 512 → whole_front run ps ≡ i
-  front_ends h w = let f = prefix_len-drop_no (whole run) ps i 0 h (lt-leb _ _ w) in omega arith
+not-beyond : (run : List ℕ) (p : ℕ) → whole run p ≡ not (beyond run p)
+not-beyond run p = grind (arith, nat_tests)
 
-  pub front-all : length ps ≤ i → i ≤ length ps → whole_front run ps ≡ length ps
-  front-all h k = let f = prefix_len-drop_all (whole run) ps i h in omega arith
+-- what filling tells by the first page that is not wholly inside the run
+module _ (run ps : List ℕ) where
+  front-position : whole_front run ps ≡ position_or_len (beyond run) ps
+  front-position = ap (λ w. prefix_len w ps) (λ k p. not-beyond run p k)
 
--- what filling tells of the first page that is not wholly inside the run
-pub outside : (run ps : List ℕ) (size : ℕ) → size ≤ 512 * length ps → (i : ℕ) → i < length ps → whole_front run ps ≡ i → Err (of_call 28 i 0) ≡ filling run ps size
-outside run ps size enough i h e =
-    let k : whole_front run ps < length ps = omega arith in
-    sym (cond-false _ _ _ (le-ltb _ _ enough) ∙ cond-true _ _ _ (lt-ltb _ _ k) ∙ ap (λ n. Err (of_call 28 n 0)) e)
+  pub outside : (size i : ℕ) → size ≤ 512 * length ps → position (beyond run) ps ≡ Some i → Err (of_call 28 i 0) ≡ filling run ps size
+  outside size i enough e = let f = front-position in grind (arith, common_steps, nat_tests)
+
+  pub all-inside : position (beyond run) ps ≡ None → whole_front run ps ≡ length ps
+  all-inside e = let f = front-position in grind (arith, common_steps, prefix_len-le-length)

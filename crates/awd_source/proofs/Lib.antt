@@ -1,3 +1,1 @@
 mod Joins
-mod Parts
-mod Pasted

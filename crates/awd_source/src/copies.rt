@@ -9,19 +9,18 @@ use awd_fault::{Cause, Fault};
 // Copies all bytes of a source to the start of a buffer, and leaves the rest of the buffer as it was. A
 // buffer that is too short is refused and left as it was.
 pub fn copy<S: Source>(source: &S, buffer: &mut [u8]) -> Result<(), Fault>
-    ensures answer { answer result ≡ copying (S.Source.bytes source.now) buffer.old }
-    ensures after { buffer.new ≡ copied (S.Source.bytes source.now) buffer.old }
+    ensures answer { answer result ≡ copying (S.bytes source.now) buffer.old }
+    ensures after { buffer.new ≡ copied (S.bytes source.now) buffer.old }
 {
-    let length = source.length();
-    if length > buffer.len() as u64 {
+    if source.length() > buffer.len() as u64 {
         return Err(Fault::of_call(Cause::BufferTooShort, 0, 0));
     }
-    for at in 0..length as usize {
-        // a byte is there at every place below the length
+    for (at, place) in buffer.iter_mut().enumerate() {
         let Some(b) = source.byte(at as u64) else {
-            unreachable()
+            // the source ends here
+            break;
         };
-        buffer[at] = b;
+        *place = b;
     }
     Ok(())
 }

@@ -10,7 +10,8 @@ use awd_fault::{Cause, Fault};
 pub const PAGE_SIZE: u64 = 512;
 
 // The listed pages of a run, joined in the list's order and cut to a length. Page p is the 512 bytes of the
-// run from 512 × p on. The type itself keeps each listed page inside the run, and the length within them.
+// run from 512 × p on. The type itself keeps each listed page inside the run, and the length within them. (No Model: contracts name the run
+// and the list themselves.)
 #[derive(Drop)]
 pub struct Pages<'a> {
     run: Run<'a>,
@@ -43,10 +44,11 @@ impl<'a> Pages<'a> {
             return Err(Fault::of_call(Cause::LengthOverPages, 0, 0));
         }
         let length = run.length();
-        for (i, page) in list.iter().enumerate() {
-            if PAGE_SIZE * *page as u64 + PAGE_SIZE > length {
-                return Err(Fault::of_call(Cause::PageOutsideRun, i as u64, 0));
-            }
+        let outside = list
+            .iter()
+            .position(|&page| PAGE_SIZE * u64::from(page) + PAGE_SIZE > length);
+        if let Some(i) = outside {
+            return Err(Fault::of_call(Cause::PageOutsideRun, i as u64, 0));
         }
         *self = Pages { run, list, size };
         Ok(())
@@ -64,7 +66,7 @@ impl<'a> Source for Pages<'a> {
         if at >= self.size {
             return None;
         }
-        let page = self.list[(at / PAGE_SIZE) as usize] as u64;
+        let page = u64::from(self.list[(at / PAGE_SIZE) as usize]);
         self.run.byte(PAGE_SIZE * page + at % PAGE_SIZE)
     }
 }

@@ -22,13 +22,12 @@ impl<'a> Run<'a> {
     pub fn part(&self, at: u64, size: u64) -> Option<&'a [u8]>
         ensures { VeryPart self.now.held at size result }
     {
-        let length = self.held.len() as u64;
-        if at > length || size > length - at {
+        let end = at.checked_add(size)?;
+        if end > self.length() {
             return None;
         }
-        let start = at as usize;
-        let end = (at + size) as usize;
-        Some(&self.held[start..end])
+        // not by `get` with a range, which promises the part's contents and not its address
+        Some(&self.held[at as usize..end as usize])
     }
 }
 
@@ -40,10 +39,6 @@ impl<'a> Source for Run<'a> {
     }
 
     fn byte(&self, at: u64) -> Option<u8> {
-        if at < self.held.len() as u64 {
-            Some(self.held[at as usize])
-        } else {
-            None
-        }
+        self.held.get(at as usize).copied()
     }
 }

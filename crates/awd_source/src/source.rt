@@ -16,7 +16,7 @@ pub trait Source {
 
 // A source that is only lent: it stands for the same bytes.
 impl<'a, S: Source> Source for &'a S {
-    ghost bytes = { λ s. S.Source.bytes s.now };
+    ghost bytes = { λ s. S.bytes s.now };
 
     fn length(&self) -> u64 {
         (**self).length()

@@ -1,5 +1,5 @@
 // A window: part of a source, as a source of its own.
-ghost use Rattle.std.specs.Prelude.{◌≡◌};
+ghost use Rattle.std.specs.Prelude.{◌≡◌, ◌+◌, ◌^◌, ◌<◌, length};
 ghost use Rattle.awd_source.specs.Bytes.{part};
 
 use crate::source::Source;
@@ -23,28 +23,30 @@ impl<S> Window<S> {
     pub fn close(self) -> S
         ensures { result ≡ self.below }
     {
-        let Window {
-            below,
-            start: _,
-            size: _,
-        } = self;
-        below
+        self.below
+    }
+}
+
+impl<S: Source> Window<S> {
+    // How many bytes of the source below it shows. No place of these leaves 64 bits, since none in the source does.
+    fn shown(&self) -> u64
+        ensures size { result ≡ length (part (S.bytes self.now.below) self.now.start self.now.size) }
+        ensures fits { 0 < result → self.now.start + result < 2 ^ 64 }
+    {
+        let rest = self.below.length().saturating_sub(self.start);
+        rest.min(self.size)
     }
 }
 
 impl<S: Source> Source for Window<S> {
-    ghost bytes = { λ w. part (S.Source.bytes w.below) w.start w.size };
+    ghost bytes = { λ w. part (S.bytes w.below) w.start w.size };
 
     fn length(&self) -> u64 {
-        let rest = self.below.length().saturating_sub(self.start);
-        rest.min(self.size)
+        self.shown()
     }
 
     fn byte(&self, at: u64) -> Option<u8> {
-        // the answer of length below also tells that no place in it leaves 64 bits
-        let rest = self.below.length().saturating_sub(self.start);
-        let length = rest.min(self.size);
-        if at >= length {
+        if at >= self.shown() {
             return None;
         }
         self.below.byte(self.start + at)

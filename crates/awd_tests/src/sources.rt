@@ -2,18 +2,23 @@
 use awd_fault::Fault;
 use awd_source::{Pages, Run, Source, Window, copy};
 
-// Cause and place of a refusal by a call, if the rest of the fault is as it should be.
-fn refusal(answer: Result<(), Fault>) -> Option<(u8, u64)> {
-    match answer {
-        Ok(()) => None,
-        Err(f) => {
-            if f.block == 0 && f.layer.number() == 4 && f.index.is_none() {
-                Some((f.cause.number(), f.place))
-            } else {
-                Some((0, 0))
-            }
-        }
-    }
+// A fault by its five parts: cause, place, block, layer and index.
+type Parts = (u8, u64, u64, u8, Option<u64>);
+
+fn refusal(answer: Result<(), Fault>) -> Option<Parts> {
+    let f = answer.err()?;
+    Some((
+        f.cause.number(),
+        f.place,
+        f.block,
+        f.layer.number(),
+        f.index,
+    ))
+}
+
+// The parts of a refusal by a call, of which cause and place are told.
+fn by_call(told: Option<(u8, u64)>) -> Option<Parts> {
+    told.map(|(cause, place)| (cause, place, 0, 4, None))
 }
 
 // Place and size of a part of the bytes 0, 1, 2, 3 and 4; its length and its first byte, if it is there.
@@ -33,10 +38,9 @@ fn parts(rt: HostRuntime) {
     let memory: [u8; 5] = [0, 1, 2, 3, 4];
     let run = Run::new(&memory);
     for (at, size, expected) in PARTS {
-        let found = match run.part(at, size) {
-            Some(part) if !part.is_empty() => Some((part.len(), part[0])),
-            _ => None,
-        };
+        let found = run
+            .part(at, size)
+            .and_then(|part| Some((part.len(), *part.first()?)));
         assert_eq!(rt; found, expected, "{}", at);
     }
     // an empty part fits even at the very end
@@ -80,9 +84,9 @@ fn windows(rt: HostRuntime) {
 // A run of four pages and a half; each byte is ten times its page's number, and one more at the page's end.
 fn paged_memory() -> [u8; 2304] {
     let mut memory = [0u8; 2304];
-    for at in 0..2304 {
+    for (at, byte) in memory.iter_mut().enumerate() {
         let page = (at / 512 * 10) as u8;
-        memory[at] = if at % 512 == 511 { page + 1 } else { page };
+        *byte = if at % 512 == 511 { page + 1 } else { page };
     }
     memory
 }
@@ -141,7 +145,7 @@ fn fills(rt: HostRuntime) {
         assert_eq!(rt; refusal(pages.fill(Run::new(&memory), &one, 3)), None);
         assert_eq!(rt;
             refusal(pages.fill(Run::new(&memory), &list, size)),
-            expected,
+            by_call(expected),
             "{}",
             size
         );
@@ -168,7 +172,7 @@ fn copies(rt: HostRuntime) {
     assert_eq!(rt; refusal(copy(&source, &mut longer)), None);
     assert_eq!(rt; longer, [2, 3, 4, 9, 9]);
     let mut short = [9u8; 2];
-    assert_eq!(rt; refusal(copy(&source, &mut short)), Some((26, 0)));
+    assert_eq!(rt; refusal(copy(&source, &mut short)), by_call(Some((26, 0))));
     assert_eq!(rt; short, [9, 9]);
     let mut none = [9u8; 0];
     assert_eq!(rt; refusal(copy(&Pages::new(), &mut none)), None);

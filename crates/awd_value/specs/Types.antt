@@ -1,7 +1,9 @@
 -- The types of user attributes' values, by number, and their sizes. Assumes nothing.
-use Rattle.std.specs.Prelude.{ℕ, Bool, false, cond, ◌||◌, is_some, Some, None, Option, ◌==◌}
+use Rattle.std.specs.Prelude.{◌≡◌, ℕ, Bool, true, false, cond, ◌||◌, is_some, Some, None, Option, Result, MatchResult, ◌==◌, List, ◌++◌, codes}
+use Rattle.std.specs.Fmt.{decimal}
 use Rattle.awd_value.specs.declared.types.ValueType.{ValueType}
 use Rattle.awd_value.specs.declared.types.ValueType.TheVariants as type
+use Rattle.awd_value.specs.declared.types.UnknownType.{UnknownType}
 
 -- the number of a type
 abbrev pub type_number : ValueType → ℕ
@@ -44,3 +46,12 @@ suits t n = any_size t || fits (fixed_size t) n
 -- whether there is a type of a number
 abbrev pub known : ℕ → Bool
 known t = any_size t || is_some (fixed_size t)
+
+-- the type that a number stands for, or an error with the number where there is no such type
+abbrev pub StandsFor : ℕ → Result ValueType UnknownType → Type 0
+StandsFor number r =
+    MatchResult r (λ t. (type_number t ≡ number) × (known number ≡ true)) (λ e. (e.0 ≡ number) × (known number ≡ false))
+
+-- what a number that stands for no type is told by
+abbrev pub unknown_text : ℕ → List ℕ
+unknown_text number = codes "no type of value has number " ++ decimal number

@@ -5,5 +5,5 @@
 mod types;
 mod values;
 
-pub use types::ValueType;
+pub use types::{UnknownType, ValueType};
 pub use values::Number;

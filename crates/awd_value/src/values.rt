@@ -5,12 +5,12 @@ ghost use Rattle.awd_value.specs.Types.{type_number, fixed_size};
 ghost use Rattle.awd_value.specs.Values.{told, value_of, value_in, Within, size_or0};
 
 use crate::types::ValueType;
-use awd_field::number_at;
+use awd_field::spelled_at;
 use awd_source::Run;
 use std::num::{f32_from_bits_with_nan, f64_from_bits_with_nan};
 
 // A value that is a number, or yes or no.
-#[derive(Clone, Copy)]
+#[derive(Clone, Copy, PartialEq, Debug)]
 pub enum Number {
     Signed(i32),
     Unsigned(u32),
@@ -30,10 +30,7 @@ impl ValueType {
             return None;
         }
         // the bytes are just those of the number
-        let Ok(spelled) = number_at(&Run::new(bytes), 0, size.bytes, size) else {
-            unreachable()
-        };
-        Some(value_in(self, spelled))
+        Some(value_in(self, spelled_at(&Run::new(bytes), 0, size)))
     }
 }
 

@@ -4,77 +4,107 @@
 #![tactic(auto)]
 
 use awd_attributes::{Attribute, AttributeReader, Value};
+use awd_fault::Fault;
 use awd_value::Number;
+use std::fmt;
 use std::io::Read;
 use std::num::{f32_to_bits_with_nan, f64_to_bits_with_nan};
 
 const MAX_INPUT: usize = 65_536;
 
-fn print_bytes(rt: HostRuntime, bytes: &[u8]) -> anyhow::Result<()> {
-    for b in bytes {
-        print!(rt; " {b}")?;
+// Bytes, each by its number.
+#[derive(Drop)]
+struct Bytes<'a>(&'a [u8]);
+
+impl<'a> fmt::Display for Bytes<'a> {
+    fn fmt<W: fmt::Write>(&self, f: &mut fmt::Formatter<W>) -> fmt::Result {
+        for b in self.0 {
+            write!(f, " {b}")?;
+        }
+        Ok(())
     }
-    Ok(())
 }
 
-fn print_number(rt: HostRuntime, attribute: Attribute, bytes: &[u8]) -> anyhow::Result<()> {
-    match attribute.value_type.value(bytes) {
-        None => print!(rt; " none")?,
-        Some(Number::Signed(n)) => print!(rt; " signed {n}")?,
-        Some(Number::Unsigned(n)) => print!(rt; " unsigned {n}")?,
-        Some(Number::Single(x)) => {
-            let bits = f32_to_bits_with_nan(x);
-            print!(rt; " single {bits}")?
+// A number by its case, or that there is none.
+#[derive(Drop)]
+struct Case(Option<Number>);
+
+impl fmt::Display for Case {
+    fn fmt<W: fmt::Write>(&self, f: &mut fmt::Formatter<W>) -> fmt::Result {
+        match self.0 {
+            None => write!(f, " none"),
+            Some(Number::Signed(n)) => write!(f, " signed {n}"),
+            Some(Number::Unsigned(n)) => write!(f, " unsigned {n}"),
+            Some(Number::Single(x)) => write!(f, " single {}", f32_to_bits_with_nan(x)),
+            Some(Number::Double(x)) => write!(f, " double {}", f64_to_bits_with_nan(x)),
+            Some(Number::YesNo(yes)) => write!(f, " yesno {yes}"),
         }
-        Some(Number::Double(x)) => {
-            let bits = f64_to_bits_with_nan(x);
-            print!(rt; " double {bits}")?
-        }
-        Some(Number::YesNo(yes)) => print!(rt; " yesno {yes}")?,
     }
-    Ok(())
 }
 
-fn print_attribute(rt: HostRuntime, index: usize, attribute: Attribute) -> anyhow::Result<()> {
-    let namespace = attribute.namespace;
-    let value_type = attribute.value_type.number();
-    print!(rt; "{index} namespace {namespace} key")?;
-    print_bytes(rt, attribute.key)?;
-    print!(rt; " type {value_type}")?;
-    match attribute.value {
-        Value::Text(bytes) => {
-            print!(rt; " text")?;
-            print_bytes(rt, bytes)?;
+// What a line tells of an attribute, behind its index.
+#[derive(Drop)]
+struct Told<'a>(Attribute<'a>);
+
+impl<'a> fmt::Display for Told<'a> {
+    fn fmt<W: fmt::Write>(&self, f: &mut fmt::Formatter<W>) -> fmt::Result {
+        let Attribute {
+            namespace,
+            key,
+            value_type,
+            value,
+        } = self.0;
+        write!(
+            f,
+            "namespace {namespace} key{} type {}",
+            Bytes(key),
+            value_type.number()
+        )?;
+        match value {
+            Value::Text(bytes) => write!(f, " text{}", Bytes(bytes)),
+            Value::Raw(bytes) => write!(f, " raw{}", Bytes(bytes)),
+            Value::Number(bytes) => write!(f, "{}", Case(value_type.value(bytes))),
         }
-        Value::Raw(bytes) => {
-            print!(rt; " raw")?;
-            print_bytes(rt, bytes)?;
-        }
-        Value::Number(bytes) => print_number(rt, attribute, bytes)?,
     }
-    println!(rt)?;
-    Ok(())
+}
+
+// A refusal by its numbers.
+#[derive(Drop)]
+struct Refused(Fault);
+
+impl fmt::Display for Refused {
+    fn fmt<W: fmt::Write>(&self, f: &mut fmt::Formatter<W>) -> fmt::Result {
+        let Fault {
+            cause,
+            place,
+            block,
+            layer,
+            index,
+        } = self.0;
+        write!(
+            f,
+            "fault {} {place} {block} {} {}",
+            cause.number(),
+            layer.number(),
+            index.unwrap_or(0)
+        )
+    }
 }
 
 fn main(rt: HostRuntime) -> anyhow::Result<()> {
     let mut input = Vec::new(rt.alloc());
     rt.stdin().take(MAX_INPUT as u64).read_to_end(&mut input)?;
-    let part = input.as_slice();
-    let mut reader = AttributeReader::new(part);
+    let mut reader = AttributeReader::new(input.as_slice());
+    // there are no more attributes than bytes, and a fault ends the walk
     for index in 0..MAX_INPUT + 1 {
         match reader.next() {
-            Ok(Some(attribute)) => print_attribute(rt, index, attribute)?,
+            Ok(Some(attribute)) => println!(rt; "{index} {}", Told(attribute))?,
             Ok(None) => {
                 println!(rt; "end {index}")?;
                 return Ok(());
             }
             Err(fault) => {
-                let cause = fault.cause.number();
-                let place = fault.place;
-                let block = fault.block;
-                let layer = fault.layer.number();
-                let entry = fault.index.unwrap_or(0);
-                println!(rt; "fault {cause} {place} {block} {layer} {entry}")?;
+                println!(rt; "{}", Refused(fault))?;
                 return Ok(());
             }
         }

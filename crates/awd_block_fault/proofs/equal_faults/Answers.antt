@@ -1,9 +1,8 @@
-use Rattle.awd_block_fault.specs.contracts.BlockFaultEq.TheImpl.Laws.{laws-law}
-use Rattle.awd_block_fault.proofs.Equal.{equal_fault}
+use Rattle.std.proofs.Common.{arith}
+use Rattle.std.proofs.lemmas.Grind.{common_steps}
+use denote.Enum.Bare.{same_true}
+use Rattle.awd_fault.specs.contracts.Cause.{the_type}
 use Rattle.awd_block_fault.proofs.equal_faults.Goals as goal
 
 pub returns-clause-equal : goal.returns-clause-equal
-returns-clause-equal c = equal_fault
-
-pub returns-clause-same : goal.returns-clause-same
-returns-clause-same c = laws-law.refl
+returns-clause-equal c x y e = grind (arith, common_steps, same_true the_type tt)

@@ -1,25 +1,12 @@
-use Rattle.std.proofs.Common.{◌+◌, ◌*◌, ◌<◌, ◌≤◌, length, sym, ◌∙◌, arith}
-use Rattle.awd_geometry.proofs.Indices.{too_large, below-limit, none_left}
+use Rattle.std.proofs.Common.{◌<◌, ◌≤◌, rules}
+use Rattle.std.proofs.lemmas.Iterator.{first_from_Range}
+use Rattle.awd_geometry.proofs.Indices.{index, is_first}
 use Rattle.awd_geometry.proofs.flaws.first_not_below.Goals as goal
 
-pub returns-then-spelled_at-limit : goal.returns-then-spelled_at-limit
-returns-then-spelled_at-limit g c =
+pub returns-clause-found : goal.returns-clause-found
+returns-clause-found g c =
     let m = g.S.Source.bytes c.args.indices.now in
-    let p = 2 * c.loop-k.k in
-    let h : p + 1 < length m = omega arith in
-    let at = too_large c.args.limit m p c.spelled_at.result h c.spelled_at.ensures.value (omega arith) in
-    record { found = sym at ∙ c.loop-k.invariant; inside = omega arith }
-
-pub loop-k-preserved : goal.loop-k-preserved
-loop-k-preserved g c =
-    let m = g.S.Source.bytes c.args.indices.now in
-    let p = 2 * c.loop-k.k in
-    let h : p + 1 < length m = omega arith in
-    below-limit c.args.limit m p c.spelled_at.result h c.spelled_at.ensures.value (2 * (c.loop-k.k + 1)) (omega arith) (omega arith) ∙ c.loop-k.invariant
-
-pub returns : goal.returns
-returns g c =
-    let m = g.S.Source.bytes c.args.indices.now in
-    let p = 2 * c.loop-k.k in
-    let few : length m ≤ p + 1 = omega arith in
-    record { found = sym (none_left c.args.limit m p few) ∙ c.loop-k.invariant; inside = tt }
+    let limit = c.args.limit in
+    let first = first_from_Range _ _ _ c.find.result (λ k. limit ≤ index m k) (λ k. index m k < limit) c.find.ensures.ran (λ k q h. search rules) (λ k q h. search rules) in
+    let found = is_first limit m c.length.result c.length.ensures c.find.result first in
+    search (rules, found)

@@ -1,2 +1,0 @@
-mod Tables
-pub mod Numbers
