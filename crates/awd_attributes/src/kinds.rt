@@ -49,6 +49,7 @@ fn typed_value<S: Source>(holder: &Holder<S>, at: u64) -> Result<TypedValue, Fie
     ensures parts { let B = held holder.now in IfOk result (λ v. (type_number v.value_type ≡ le (part B at 1)) × (v.behind ≡ at + 1 + 4 + le (part B (at + 1) 4)) × (v.behind ≤ holder.now.end)) }
 {
     let number = holder.number_at(at, ONE)?;
+    // one byte, so nothing is cut off
     let Ok(value_type) = ValueType::try_from(number as u8) else {
         return Err(FieldFault::new(Cause::ValueNotAllowed, at));
     };
@@ -77,6 +78,7 @@ pub(crate) fn user_fields<S: Source>(holder: &Holder<S>, at: u64) -> Result<User
     let type_at = text_at(holder, at + 1)?;
     let value = typed_value(holder, type_at)?;
     Ok(UserFields {
+        // one byte, so nothing is cut off
         namespace: namespace as u8,
         type_at,
         value,

@@ -27,6 +27,7 @@ impl<E: Earlier> Address<E> {
         ensures read { result ≡ read_in (address_to self.now.target (E.records self.now.earlier)) holder.now at }
         ensures fits { Ends (at + 4) holder.now.end result }
     {
+        // four bytes, so nothing is cut off
         let address = holder.number_at(at, FOUR)?;
         if !self.earlier.lawful(self.target, address as u32) {
             Err(FieldFault::new(Cause::AddressNotLawful, at))?;

@@ -82,7 +82,7 @@ impl EntryKind for Stream {
         let stream_type = holder.number_at(at, ONE)?;
         let _code = holder.number_at(at + 1, ONE)?;
         let size = holder.number_at(at + 1 + 1, FOUR)?;
-        // the size is judged before the bytes that it counts
+        // the size is judged before the bytes that it counts; the type is one byte, so nothing is cut off
         if size % item_size(self.width, stream_type as u8) != 0 {
             return Err(FieldFault::new(Cause::ValueNotAllowed, at + 1 + 1));
         }

@@ -114,6 +114,7 @@ pub fn header_of<S: Source>(source: &S) -> Header
     Header {
         version: byte_or_zero(source, 3),
         revision: byte_or_zero(source, 4),
+        // two bytes, so nothing is cut off
         flags: spelled_at(source, 5, TWO) as u16,
     }
 }

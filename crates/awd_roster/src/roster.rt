@@ -1,4 +1,4 @@
-// The table of taken blocks, and what it answers.
+// The table of taken blocks, and what it answers. (A block's number has 64 bits; std has no `From` between these and `usize`, so it is cast.)
 ghost use Rattle.std.specs.Prelude.{◌≡◌, ◌+◌, ◌≤◌, ◌==◌, List, [], length, slice_get, position, IfSome};
 ghost use Rattle.awd_roster.specs.declared.record.Record.{Record};
 ghost use Rattle.awd_roster.specs.Addresses.{named, lawful_address};

@@ -1,4 +1,4 @@
-// What a source of bytes is.
+// What a source of bytes is. Places and lengths have 64 bits; std has no `From` between these and `usize`, so what meets a slice's index is cast.
 ghost use Rattle.std.specs.Prelude.{◌≡◌, ℕ, List, length};
 ghost use Rattle.awd_source.specs.Bytes.{byte_at};
 

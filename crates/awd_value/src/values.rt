@@ -34,7 +34,7 @@ impl ValueType {
     }
 }
 
-// A number as a value of a type.
+// A number as a value of a type. (`as`: the number has the type's size, so nothing is cut off, and `TryFrom` would have a branch that is never taken.)
 fn value_in(value_type: ValueType, spelled: u64) -> Number
     requires { Within (fixed_size (type_number value_type)) spelled }
     ensures { told result ≡ value_in (type_number value_type) (size_or0 (fixed_size (type_number value_type))) spelled }

@@ -93,6 +93,7 @@ impl fmt::Display for Refused {
 
 fn main(rt: HostRuntime) -> anyhow::Result<()> {
     let mut input = Vec::new(rt.alloc());
+    // std has no `From` from usize to u64
     rt.stdin().take(MAX_INPUT as u64).read_to_end(&mut input)?;
     let mut reader = AttributeReader::new(input.as_slice());
     // there are no more attributes than bytes, and a fault ends the walk

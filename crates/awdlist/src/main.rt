@@ -7,7 +7,7 @@ use std::io::Read;
 
 fn main(rt: HostRuntime) -> anyhow::Result<()> {
     let mut input = Vec::new(rt.alloc());
-    // one byte more than may be listed, so that a longer input is seen to be longer
+    // one byte more than may be listed, so that a longer input is seen to be longer (std has no `From` from usize to u64)
     rt.stdin()
         .take(MAX_INPUT as u64 + 1)
         .read_to_end(&mut input)?;
