@@ -1,4 +1,8 @@
 pub mod Headers
 pub mod Bodies
 pub mod Whole
+pub mod Names
+pub mod Steps
+pub mod Next
 pub mod Rows
+pub mod Told

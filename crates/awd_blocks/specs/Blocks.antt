@@ -10,7 +10,9 @@ use Rattle.awd_format.specs.Sets.{Stands, Then}
 use Rattle.awd_format.specs.Shapes.{Shape, bytes, SetOf, read_of}
 use Rattle.awd_format.specs.FirstFaults.{FaultOf}
 use Rattle.awd_header.specs.Widths.{Sizes, widths_of}
+use Rattle.awd_roster.specs.declared.kind.BlockKind.TheVariants.{Container, Mesh, Light, Picker, Geometry, Skeleton}
 use Rattle.awd_roster.specs.declared.record.Record.{Record}
+use Rattle.awd_roster.specs.Kinds.{kind_number}
 use Rattle.awd_bodies.specs.Scene.{container, mesh, light, picker}
 use Rattle.awd_bodies.specs.Groups.{geometry}
 use Rattle.awd_bodies.specs.Skeletons.{skeleton}
@@ -19,12 +21,12 @@ use Rattle.awd_blocks.specs.Heads.{namespace_at, kind_at, flags_at, size_at, bod
 -- the body of a block of namespace 0, by its kind; one of a kind that is not read is carried: so many bytes of any content
 unfoldable pub kind_body : List Record → Sizes → ℕ → ℕ → Shape
 kind_body before w kind size =
-    cond (kind == 22) (container before w.matrix)
-    (cond (kind == 23) (mesh before w.matrix)
-    (cond (kind == 41) (light before w.matrix)
-    (cond (kind == 51) (picker before)
-    (cond (kind == 1) (geometry w.geometry)
-    (cond (kind == 101) (skeleton w.matrix) (bytes size))))))
+    cond (kind == kind_number Container) (container before w.matrix)
+    (cond (kind == kind_number Mesh) (mesh before w.matrix)
+    (cond (kind == kind_number Light) (light before w.matrix)
+    (cond (kind == kind_number Picker) (picker before)
+    (cond (kind == kind_number Geometry) (geometry w.geometry)
+    (cond (kind == kind_number Skeleton) (skeleton w.matrix) (bytes size))))))
 
 -- a block of another namespace is carried too
 unfoldable pub body_of : List Record → Sizes → ℕ → ℕ → ℕ → Shape

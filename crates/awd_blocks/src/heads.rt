@@ -1,14 +1,18 @@
 // The header of a block.
-ghost use Rattle.std.specs.Prelude.{◌≡◌, ◌+◌, ◌≤◌, IfOk};
+ghost use Rattle.std.specs.Prelude.{◌≡◌, ◌+◌, ◌^◌, ◌<◌, ◌≤◌, IfOk, IfSome};
 ghost use Rattle.std.specs.Result.{result_map_both};
 ghost use Rattle.awd_field.specs.Holders.{held};
+ghost use Rattle.awd_field.specs.Fields.{bytes_at};
 ghost use Rattle.awd_format.specs.Readings.{entry_in};
-ghost use Rattle.awd_blocks.specs.Heads.{id_at, namespace_at, kind_at, flags_at, size_at, body_at, block_header};
+ghost use Rattle.awd_header.specs.Widths.{width_size};
+ghost use Rattle.awd_blocks.specs.Heads.{head_of, block_header};
+ghost use Rattle.awd_blocks.specs.Records.{has_head, begins_named, name_in, record_of};
 
 use awd_block_fault::{FieldFault, HeaderFault};
 use awd_fault::Cause;
-use awd_field::{FOUR, Holder, ONE};
-use awd_roster::Earlier;
+use awd_field::{FOUR, Holder, ONE, TWO, spelled_at};
+use awd_header::Width;
+use awd_roster::{BlockKind, Earlier, Record, Span};
 use awd_source::Source;
 
 // What a block header says.
@@ -30,7 +34,7 @@ pub(crate) fn head_at<S: Source, E: Earlier>(
     at: u64,
 ) -> Result<Head, HeaderFault>
     ensures read { result_map_both (λ h. h.body) (λ x. x.field) result ≡ entry_in (block_header (E.records earlier.now)) holder.now at }
-    ensures parts { let B = held holder.now in IfOk result (λ h. (h.id ≡ id_at B at) × (h.namespace ≡ namespace_at B at) × (h.kind ≡ kind_at B at) × (h.flags ≡ flags_at B at) × (h.size ≡ size_at B at) × (h.body ≡ body_at at) × (h.body ≤ holder.now.end)) }
+    ensures parts { IfOk result (λ h. (h ≡ head_of (held holder.now) at) × (h.body ≤ holder.now.end)) }
 {
     let id = holder.number_at(at, FOUR)?;
     if !earlier.in_sequence(id as u32) {
@@ -53,4 +57,74 @@ pub(crate) fn head_at<S: Source, E: Earlier>(
         size: size as u32,
         body: at + 11,
     })
+}
+
+// Whether the body of a block of a namespace and a kind begins with a scene head.
+pub fn has_head(namespace: u8, kind: u8) -> bool
+    ensures { result ≡ has_head namespace kind }
+{
+    namespace == 0
+        && matches!(
+            BlockKind::try_from(kind),
+            Ok(BlockKind::Container | BlockKind::Mesh | BlockKind::Light)
+        )
+}
+
+impl Head {
+    // The place behind the body that the header announces, which must fit; a body that does not is told as a fault of the header.
+    pub(crate) fn body_end<S: Source>(self, holder: &Holder<S>) -> Result<u64, HeaderFault>
+        ensures read { result_map_both (λ e. e) (λ x. x.field) result ≡ bytes_at self.body holder.now.end self.size }
+        ensures fits { IfOk result (λ e. (e ≡ self.body + self.size) × (e ≤ holder.now.end)) }
+    {
+        Ok(holder.bytes_at(self.body, u64::from(self.size))?)
+    }
+
+    // Whether the body begins with a name.
+    fn begins_named(self) -> bool
+        ensures { result ≡ begins_named self.namespace self.kind }
+    {
+        self.namespace == 0
+            && matches!(
+                BlockKind::try_from(self.kind),
+                Ok(BlockKind::Picker | BlockKind::Geometry | BlockKind::Skeleton)
+            )
+    }
+
+    // Where the name is, if the block has one.
+    fn name_place(self, width: Width) -> Option<u64>
+        requires { IfSome (name_in self.namespace self.kind (width_size width) self.body) (λ q. q < 2 ^ 64) }
+        ensures { result ≡ name_in self.namespace self.kind (width_size width) self.body }
+    {
+        if has_head(self.namespace, self.kind) {
+            Some(self.body + 4 + 12 * u64::from(width.bytes()))
+        } else if self.begins_named() {
+            Some(self.body)
+        } else {
+            None
+        }
+    }
+
+    // What the block tells whose header this is and stands at a place, by the width of matrix cells. (What is below 256^4 or 256^2 fits its
+    // type.)
+    pub(crate) fn record<S: Source>(self, source: &S, width: Width, at: u64) -> Record
+        requires { IfSome (name_in self.namespace self.kind (width_size width) self.body) (λ q. q + 2 < 2 ^ 64) }
+        ensures { result ≡ record_of (S.bytes source.now) at (width_size width) self }
+    {
+        let parent = has_head(self.namespace, self.kind).then(|| spelled_at(
+            source, self.body, FOUR,
+        ) as u32);
+        let name = self.name_place(width).map(|place| Span {
+            place: place + 2,
+            length: spelled_at(source, place, TWO) as u16,
+        });
+        Record {
+            id: self.id,
+            namespace: self.namespace,
+            kind: self.kind,
+            place: at,
+            size: self.size,
+            parent,
+            name,
+        }
+    }
 }

@@ -6,5 +6,6 @@ mod blocks;
 mod heads;
 mod laws;
 
-pub use blocks::Block;
+pub use blocks::{Block, block_at};
+pub use heads::has_head;
 pub use laws::block_laws;

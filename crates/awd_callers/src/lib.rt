@@ -6,6 +6,7 @@ ghost use Rattle.std.specs.Prelude.{◌≡◌, None, slice_index, slice_set};
 ghost use Rattle.awd_fault.specs.Faults.{answer};
 ghost use Rattle.awd_header.specs.Header.{opening};
 
+mod documents;
 mod sheets;
 mod walks;
 
@@ -13,6 +14,7 @@ use awd_fault::Fault;
 use awd_header::Header;
 use awd_session::Session;
 use awd_source::{Run, Source};
+pub use documents::count_blocks;
 pub use sheets::{Sheet, sheets_at};
 pub use walks::count_attributes;
 

@@ -1,23 +1,15 @@
--- Worked examples of opening a document and of its listing. Assumes nothing.
-use Rattle.std.specs.Prelude.{◌≡◌, ℕ, List, [], ◌∷◌, ◌++◌, take, replicate, Ok, Err, codes}
+-- Worked examples of opening a document. Assumes nothing.
+use Rattle.std.specs.Prelude.{◌≡◌, ℕ, List, [], ◌++◌, take, replicate, Ok, Err, codes}
 use Rattle.awd_fault.specs.Faults.{in_header}
 use Rattle.awd_header.specs.Header.{opening}
 use Rattle.awd_header.specs.Widths.{Sizes, widths_of}
-use Rattle.awd_listing.specs.Listing.{listing_of, newline}
+use Rattle.awd_examples.specs.Layout.{header, sound_header}
 use Rattle.awd_examples.specs.Parts.{Parts}
-
--- a header by its magic string, version, revision, flags (below 256), compression and body length (below 256)
-abbrev pub header : List ℕ → ℕ → ℕ → ℕ → ℕ → ℕ → List ℕ
-header magic version revision flags compression body =
-    magic ++ (version ∷ revision ∷ flags ∷ 0 ∷ compression ∷ body ∷ 0 ∷ 0 ∷ 0 ∷ [])
-
--- a sound header in front of nothing
-abbrev pub alone : List ℕ
-alone = header (codes "AWD") 2 1 0 0 0
+use Rattle.awd_examples.specs.Documents.{Documents}
 
 -- 176 bytes, by their flags and body length
 abbrev pub long : ℕ → ℕ → List ℕ
-long flags body = header (codes "AWD") 2 1 flags 0 body ++ replicate 164 0
+long flags body = sound_header flags body ++ replicate 164 0
 
 abbrev pub opens : List ℕ → ℕ → ℕ → ℕ → Type 0
 opens b version revision flags = opening b ≡ Ok (record { version = version; revision = revision; flags = flags })
@@ -29,10 +21,10 @@ abbrev pub widths : ℕ → ℕ → ℕ → Sizes
 widths matrix geometry property = record { matrix = matrix; geometry = geometry; property = property }
 
 pub record Examples : Type 0 where
-  pub sound : opens alone 2 1 0
+  pub sound : opens (sound_header 0 0) 2 1 0
   pub revision_0 : opens (header (codes "AWD") 2 0 0 0 0) 2 0 0
   pub empty : refused [] 2 0
-  pub eleven_bytes : refused (take 11 alone) 2 11
+  pub eleven_bytes : refused (take 11 (sound_header 0 0)) 2 11
   pub awe : refused (header (codes "AWE") 2 1 0 0 0) 4 2
   pub bwe : refused (header (codes "BWE") 2 1 0 0 0) 4 0
   pub version_3 : refused (header (codes "AWD") 3 1 0 0 0) 5 3
@@ -43,8 +35,6 @@ pub record Examples : Type 0 where
   pub body_163_streaming : opens (long 1 163) 2 1 1
   pub widths_of_document : widths_of 2 255 ≡ widths 8 4 4
   pub widths_of_block : widths_of 30 5 ≡ widths 8 4 8
-  pub listed : listing_of (long 0 164) ≡ codes "AWD 2.1 flags 0 length 176" ++ newline
-  pub listed_fault : listing_of (long 0 163) ≡ codes "fault 7 8 0" ++ newline
-  pub listed_empty : listing_of [] ≡ codes "fault 2 0 0" ++ newline
-  -- and of parts of a document
+  -- and of parts of a document, and of whole ones
   pub parts : Parts
+  pub documents : Documents

@@ -1,2 +1,4 @@
+pub mod Layout
 pub mod Parts
+pub mod Documents
 pub mod Examples

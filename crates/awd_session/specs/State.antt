@@ -1,16 +1,35 @@
--- A session as a value: the bytes of its source and whether it is open; what each call answers and leaves. Assumes nothing.
-use Rattle.std.specs.Prelude.{ℕ, Bool, true, false, cond, List, is_ok, Some, None, Err, Option, Result}
+-- A session as a value: the bytes of its source, whether it is open, and how many blocks it has taken; what each call answers and leaves.
+-- Assumes nothing.
+use Rattle.std.specs.Prelude.{ℕ, ◌+◌, Bool, true, false, not, cond, List, length, is_ok, slice_get, Some, None, Ok, Err, Option, Result, ◌==◌, nat_le, Float}
+use Rattle.std.specs.Result.{result_map_both}
+use Rattle.std.specs.Option.{option_map, option_and_then}
 use Rattle.awd_fault.specs.Faults.{Report, of_call}
-use Rattle.awd_header.specs.Header.{opening, header_of}
+use Rattle.awd_block_fault.specs.Faults.{in_block}
+use Rattle.awd_header.specs.Header.{opening, header_of, flags_of}
 use Rattle.awd_header.specs.declared.Header.{Header}
+use Rattle.awd_roster.specs.declared.record.Record.{Record}
+use Rattle.awd_roster.specs.Lookups.{number_of, path_of}
+use Rattle.awd_blocks.specs.declared.blocks.Block.{Block}
+use Rattle.awd_blocks.specs.Records.{read_block}
+use Rattle.awd_blocks.specs.Lists.{walk}
+use Rattle.awd_contents.specs.Contents.{material_of, cell_of}
 
 pub record State : Type 0 where
   pub source : List ℕ
   pub opened : Bool
+  pub taken : ℕ
 
 -- a session as it was made
 abbrev pub fresh : List ℕ → State
-fresh b = record { source = b; opened = false }
+fresh b = record { source = b; opened = false; taken = 0 }
+
+-- what the taken blocks tell, in their order
+abbrev pub records_of : State → List Record
+records_of s = (walk s.source s.taken).records
+
+-- the place after the last of them
+abbrev pub end_of : State → ℕ
+end_of s = (walk s.source s.taken).end
 
 -- cause 1 where the session is open already; else as the bytes alone say
 abbrev pub open_answer : State → Result Header Report
@@ -18,8 +37,51 @@ open_answer s = cond s.opened (Err (of_call 1 0 0)) (opening s.source)
 
 -- open from an accepted opening on; a refusal changes nothing
 abbrev pub after_open : State → State
-after_open s = cond (is_ok (open_answer s)) (record { source = s.source; opened = true }) s
+after_open s = cond (is_ok (open_answer s)) (record { source = s.source; opened = true; taken = s.taken }) s
 
 -- what the header says, or none before it is open
 abbrev pub header_answer : State → Option Header
 header_answer s = cond s.opened (Some (header_of s.source)) None
+
+-- the block after the taken ones: cause 8 before the session is open; none where the taken ones use the bytes up; cause 9 where 512 are taken; else
+-- the block that begins where they end, or its first fault
+abbrev pub following : State → Result (Option Block) Report
+following s =
+    cond (not s.opened) (Err (of_call 8 0 0))
+    (cond (end_of s == length s.source) (Ok None)
+    (cond (nat_le 512 s.taken) (Err (of_call 9 (end_of s) 512))
+    (result_map_both Some (in_block s.taken) (read_block (flags_of s.source) (records_of s) s.source (end_of s)))))
+
+-- next tells its number, which counts all blocks from 0
+abbrev pub next_answer : State → Result (Option ℕ) Report
+next_answer s = result_map_both (option_map (λ block. s.taken)) (λ f. f) (following s)
+
+-- an answer that is a block
+abbrev pub is_block : Result (Option Block) Report → Bool
+is_block (Ok (Some block)) = true
+is_block (Ok None) = false
+is_block (Err f) = false
+
+-- and takes it; without one, nothing changes
+abbrev pub after_next : State → State
+after_next s = cond (is_block (following s)) (record { source = s.source; opened = s.opened; taken = s.taken + 1 }) s
+
+-- the questions: the record of a block by its number
+abbrev pub record_answer : State → ℕ → Option Record
+record_answer s number = slice_get (records_of s) number
+
+-- the number of the block with an ID
+abbrev pub number_answer : State → ℕ → Option ℕ
+number_answer s id = number_of (records_of s) id
+
+-- how many parents lie between a block and the root
+abbrev pub path_answer : State → ℕ → Option ℕ
+path_answer s number = path_of (records_of s) number
+
+-- the address of the material at a position of a block
+abbrev pub material_answer : State → ℕ → ℕ → Option ℕ
+material_answer s number position = option_and_then (λ r. material_of s.source r position) (record_answer s number)
+
+-- the content of a cell of a block's matrix
+abbrev pub cell_answer : State → ℕ → ℕ → Option (ℕ × Float)
+cell_answer s number cell = option_and_then (λ r. cell_of (flags_of s.source) s.source r cell) (record_answer s number)

@@ -1,9 +1,12 @@
 use Rattle.std.proofs.Common.{refl}
 use Rattle.std.specs.Fmt.{digits}
+use Rattle.awd_bodies.specs.Fields.{numbers}
+use Rattle.awd_blocks.specs.Blocks.{kind_body, body_of}
+use Rattle.awd_listing.specs.Listing.{asked}
 use Rattle.awd_examples.proofs.worked_examples.Goals as goal
 
 pub returns : goal.returns
-unfolding digits
+unfolding digits numbers kind_body body_of asked
 returns c =
     record {
       sound = refl;
@@ -20,9 +23,6 @@ returns c =
       body_163_streaming = refl;
       widths_of_document = refl;
       widths_of_block = refl;
-      listed = refl;
-      listed_fault = refl;
-      listed_empty = refl;
       parts = record {
         name = refl;
         no_properties = refl;
@@ -50,5 +50,61 @@ returns c =
         colour = refl;
         text_is_no_number = refl;
         three_bytes = refl;
+      };
+      documents = record {
+        bytes_176 = refl;
+        listed = refl;
+        bytes_65536 = refl;
+        bytes_65537 = refl;
+        empty = refl;
+        awe = refl;
+        no_blocks = refl;
+        no_block = refl;
+        body_163 = refl;
+        streaming = refl;
+        size_64 = refl;
+        bytes_left_over = refl;
+        size_62 = refl;
+        own_parent = refl;
+        vertex_2 = refl;
+        vertex_3 = refl;
+        temporary = refl;
+        id_3 = refl;
+        compressed = refl;
+        not_open = refl;
+        too_many = refl;
+        opened = refl;
+        one = refl;
+        two = refl;
+        three = refl;
+        no_more = refl;
+        and_stays = refl;
+        end_at_176 = refl;
+        all_read = refl;
+        told = refl;
+        unnamed = refl;
+        record_3 = refl;
+        id_2 = refl;
+        id_0 = refl;
+        id_9 = refl;
+        path_of_mesh = refl;
+        path_of_container = refl;
+        path_of_carried = refl;
+        path_of_none = refl;
+        material_0 = refl;
+        cell_0 = refl;
+        cell_12 = refl;
+        cell_of_carried = refl;
+        lamp = refl;
+        cell_1 = refl;
+        material_2 = refl;
+        no_material = refl;
+        material_behind = refl;
+        lamp_taken = refl;
+        primitive_as_material = refl;
+        foreign_taken = refl;
+        foreign_told = refl;
+        own_widths_taken = refl;
+        own_cell = refl;
       };
     }
