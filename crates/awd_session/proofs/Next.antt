@@ -1,8 +1,8 @@
 -- What it means that a block is taken, or refused, in the format's words.
-use Rattle.std.proofs.Common.{◌≡◌, ℕ, ◌+◌, ◌≤◌, ◌<◌, Bool, true, false, not, eqb, leb, cond, List, [], ◌∷◌, length, Some, None, Ok, Err, Option, Result, IfErr, IfSome, is_some, sym, refl, subst, ap, ◌∙◌, inl, inr, append-nil, length-append, arith}
+use Rattle.std.proofs.Common.{◌≡◌, ℕ, ◌+◌, ◌≤◌, ◌<◌, true, not, eqb, leb, cond, List, [], ◌∷◌, length, Some, None, Ok, Err, Option, Result, IfErr, IfSome, is_some, sym, refl, subst, ap, ◌∙◌, inl, inr, append-nil, length-append, arith}
 use Rattle.std.specs.Option.{option_map}
 use Rattle.std.specs.Result.{result_map_both}
-use Rattle.std.proofs.lemmas.Bool.{cond_both, eqb-true, eqb-false, leb-true, leb-false, lt-ltb}
+use Rattle.std.proofs.lemmas.Bool.{cond_both, eqb-true, eqb-false, leb-true, leb-false, lt-ltb, not-false}
 use Rattle.awd_fault.specs.Faults.{Report, of_call}
 use Rattle.awd_header.specs.Header.{opening, flags_of}
 use Rattle.awd_header.specs.declared.Header.{Header}
@@ -19,10 +19,6 @@ use Rattle.awd_blocks.proofs.Rows.{read_further, walk_further, next_right}
 use Rattle.awd_session.specs.State.{State, records_of, end_of, following, next_answer, after_next, is_block}
 use Rattle.awd_session.specs.Laws.{NextRight, Kept}
 use Rattle.awd_session.proofs.Taken.{opened_long, walk_taken}
-
-not-false : (b : Bool) → not b ≡ false → b ≡ true
-not-false true is = refl
-not-false false is = absurd (cc is)
 
 open-some : (o : Option Header) → is_some o ≡ true → o ≡ None → ⊥
 open-some (Some h) opened none = absurd (cc none)
