@@ -20,6 +20,7 @@ OWN_WIDTHS = 16
 
 GEOMETRY, PRIMITIVE, CONTAINER, MESH, LIGHT, PICKER, MATERIAL, SKELETON = 1, 11, 22, 23, 41, 51, 81, 101
 SCENE = (CONTAINER, MESH, LIGHT)
+KINDS = (*SCENE, PICKER, GEOMETRY, SKELETON, PRIMITIVE, MATERIAL)
 ROOT = 0
 NO_JOINT = 65_535
 
@@ -284,10 +285,10 @@ class Draft:
         first = f"AWD 2.{self.revision} flags {self.flags} length {self.place}"
         return "".join(f"{line}\n" for line in [first, *self.lines, f"end {len(self.lines)}"])
 
-    def grow(self):
-        """Adds a random block of any sort, and seldom an earlier one that it needs."""
+    def grow(self, kinds=KINDS):
+        """Adds a random block of one of the kinds or of any other, and seldom an earlier one that it needs."""
         rng = self.rng
-        kind = rng.choice((CONTAINER, MESH, LIGHT, PICKER, GEOMETRY, SKELETON, PRIMITIVE, MATERIAL, rng.randrange(256)))
+        kind = rng.choice((*kinds, rng.randrange(256)))
         namespace = rng.choice((0, 0, 0, 0, 0, rng.randrange(256)))
         if kind == MESH and namespace == 0 and not self.known(GEOMETRY, PRIMITIVE):
             self.add(PRIMITIVE, self.anything())

@@ -3,11 +3,13 @@
 It is by the same authors and from the same rules (docs/FORMAT.md has them), so it catches mistakes of the program and
 not a rule that was misread. It is written for being read beside the rules and not for speed.
 
-read_header opens a document, blocks takes its blocks one after another, and listing says what awdlist has to write.
+read_header opens a document, blocks takes its blocks one after another, and listing says what awdlist has to write. A
+block's record also tells where its fields lie that a session may be asked for one by one (replayer.py needs them).
 """
 
 import contextlib
 import dataclasses
+from typing import NamedTuple
 
 # how many bytes awdlist reads, how long a document may be, and how many blocks are taken of one
 INPUT_LIMIT = 65_536
@@ -96,6 +98,10 @@ class Cursor:
         field = self.part(size)
         return int.from_bytes(field.data[field.place : field.end], "little")
 
+    def field(self, size):
+        """Where a number lies that may have any value."""
+        return Field(self.part(size).place, size)
+
     def judged(self, size, allowed, cause=VALUE_NOT_ALLOWED):
         """A number that must be allowed, else a fault at its first byte."""
         place = self.place
@@ -123,9 +129,27 @@ class Widths:
     property: int
 
 
+class Field(NamedTuple):
+    """Where a number lies, and how many bytes it has."""
+
+    place: int
+    size: int
+
+
+@dataclasses.dataclass(frozen=True)
+class Fields:
+    """Where the fields of a body lie that can be asked for, and edited, one by one."""
+
+    parent: Field | None = None
+    cells: tuple[Field, ...] = ()
+    materials: tuple[Field, ...] = ()
+
+
 @dataclasses.dataclass(frozen=True)
 class Record:
-    """What is kept of a block; the place is that of its header, the name is the place and the length of its bytes."""
+    """What is kept of a block; the place is that of its header, the name is the place and the length of its bytes.
+
+    The fields are where the bytes lie that say the rest, so records are compared without them."""
 
     id: int
     namespace: int
@@ -134,6 +158,7 @@ class Record:
     size: int
     parent: int | None = None
     name: tuple[int, int] | None = None
+    fields: Fields = dataclasses.field(default=Fields(), compare=False)
 
 
 class Earlier:
@@ -234,10 +259,10 @@ def read_block(data, header, place, earlier):
     if namespace != 0 or kind not in BODIES:
         return Record(ident, namespace, kind, place, size)
     around = Surroundings(read_widths(header.flags, flags), earlier.kinds)
-    parent, name = BODIES[kind](body, around)
+    parent, name, fields = BODIES[kind](body, around)
     if not body.at_end():
         raise Fault(BYTES_LEFT_OVER, body.place, layer=BLOCK_HEADER)
-    return Record(ident, namespace, kind, place, size, parent, name)
+    return Record(ident, namespace, kind, place, size, parent, name, fields)
 
 
 # ---- what bodies are made of
@@ -251,9 +276,8 @@ def text(cursor):
 
 
 def matrix(cursor, around):
-    """Twelve fields."""
-    for _ in range(12):
-        cursor.number(around.widths.matrix)
+    """Twelve fields of any bits; answers them."""
+    return tuple(cursor.field(around.widths.matrix) for _ in range(12))
 
 
 def address(cursor, around, kinds, zero_allowed=False):
@@ -309,14 +333,15 @@ def user_attribute(cursor, _index):
     cursor.part(size)
 
 
-# ---- bodies; each answers the parent and the name
+# ---- bodies; each answers the parent, the name, and where its fields lie
 
 
 def scene_head(cursor, around):
     """The parent or 0, a matrix and a name."""
+    place = cursor.place
     parent = address(cursor, around, SCENE_KINDS, zero_allowed=True)
-    matrix(cursor, around)
-    return parent, text(cursor)
+    cells = matrix(cursor, around)
+    return parent, text(cursor), Fields(Field(place, 4), cells)
 
 
 def container(cursor, around):
@@ -329,13 +354,20 @@ def container(cursor, around):
 
 def mesh(cursor, around):
     """A scene head, a geometry, counted materials of which any may be 0, properties and a user list."""
-    found = scene_head(cursor, around)
+    parent, name, fields = scene_head(cursor, around)
     address(cursor, around, (GEOMETRY, PRIMITIVE))
     count = cursor.number(2)
-    counted_run(cursor, count, lambda at, _index: address(at, around, (MATERIAL,), zero_allowed=True))
+    materials = counted_run(cursor, count, lambda at, _index: material(at, around))
     properties(cursor)
     user_list(cursor)
-    return found
+    return parent, name, dataclasses.replace(fields, materials=tuple(materials))
+
+
+def material(cursor, around):
+    """The address of a material, or 0; answers where it lies."""
+    place = cursor.place
+    address(cursor, around, (MATERIAL,), zero_allowed=True)
+    return Field(place, 4)
 
 
 def light(cursor, around):
@@ -353,7 +385,7 @@ def picker(cursor, around):
     count = cursor.number(2)
     counted_run(cursor, count, lambda at, _index: address(at, around, (LIGHT,)))
     user_list(cursor)
-    return None, name
+    return None, name, Fields()
 
 
 def group(cursor, entry):
@@ -363,7 +395,7 @@ def group(cursor, entry):
     properties(cursor)
     counted_run(cursor, count, entry)
     user_list(cursor)
-    return None, name
+    return None, name, Fields()
 
 
 def geometry(cursor, around):

@@ -13,7 +13,7 @@ import random
 import documents as make
 from compare_blocks import SEED, Tally
 from documents import block, document, pack, user
-from reader import Fault, Record, blocks, listing, read_header
+from reader import Fault, Fields, Record, blocks, listing, read_header
 
 KITCHEN_FILE = pathlib.Path(__file__).resolve().parent.parent / "crates" / "awdlist" / "stdin"
 
@@ -62,6 +62,25 @@ def test_kitchen():
         Record(2, 0, 22, 23, 63, 0, (88, 1)),
         Record(3, 0, 23, 97, 68, 2, (162, 0)),
     ]
+
+
+def test_fields_of_the_kitchen():
+    first, second, third = (record.fields for record in records(pack(make.kitchen())))
+    assert first == Fields()
+    assert second.parent == (34, 4)
+    assert second.cells == tuple((38 + 4 * cell, 4) for cell in range(12))
+    assert third.parent == (108, 4)
+    assert third.cells == tuple((112 + 4 * cell, 4) for cell in range(12))
+    assert second.materials == third.materials == ()
+
+
+def test_fields_of_a_wide_mesh():
+    body = make.mesh(0, 1, [2, 0], b"lamp", widths=make.Widths(matrix=8))
+    data = pack(document([block(1, 11), block(2, 81), block(3, 23, body)], flags=2))
+    fields = records(data)[2].fields
+    assert fields.parent == (45, 4)
+    assert fields.cells == tuple((49 + 8 * cell, 8) for cell in range(12))
+    assert fields.materials == ((157, 4), (161, 4))
 
 
 def test_header_alone():

@@ -16,7 +16,7 @@ use Rattle.awd_blocks.proofs.Next.{block-length, on-ok, next_at, read-one, read-
 
 module _ (B : List ℕ) where
   -- the first block of those read, and the others
-  first-read : (n : ℕ) (before : List Record) (at : ℕ) (w : Walk) → read_from B (suc n) before at ≡ Ok w
+  pub first-read : (n : ℕ) (before : List Record) (at : ℕ) (w : Walk) → read_from B (suc n) before at ≡ Ok w
       → (e : ℕ) × (next_at B before at ≡ Ok e) × (read_from B n (and_at before B at) e ≡ Ok w)
   first-read n before at w is = on-ok (λ x. x) (next_at B before at) (λ e. read_from B n (and_at before B at) e) w is
 

@@ -102,7 +102,7 @@ module _ (B : List ℕ) (end : ℕ) where
   name-told : (body x : ℕ) (r : Record) → read_of text B body end ≡ Ok x → r.name ≡ Some (text_bytes B body) → NameTold B body end r
   name-told body x r is name = record { behind = x; name = is; name_told = name; name_whole = text-end body x is }
 
-  header-end : (before : List Record) (at q : ℕ) → read_of (block_header before) B at end ≡ Ok q → q ≡ at + 11
+  pub header-end : (before : List Record) (at q : ℕ) → read_of (block_header before) B at end ≡ Ok q → q ≡ at + 11
   header-end before at q is =
       let (id, is-id, a) = on-ok Field (number_at B at end 4) _ q is in
       let (namespace, is-namespace, b) = on-ok Field (number_at B (at + 4) end 1) _ q (not-refused (in_sequence before id) _ _ q a) in
@@ -111,7 +111,7 @@ module _ (B : List ℕ) (end : ℕ) where
       let (size, is-size, e) = on-ok Field (number_at B (at + 4 + 1 + 1 + 1) end 4) _ q (not-refused (uncompressed flags) _ _ q d) in
       omega (arith, bytes-end (at + 4 + 1 + 1 + 1 + 4) 0 q e)
 
-filled-is : (stop e q : ℕ) → filled_to stop e ≡ Ok q → (e ≡ stop) × (e ≡ q)
+pub filled-is : (stop e q : ℕ) → filled_to stop e ≡ Ok q → (e ≡ stop) × (e ≡ q)
 filled-is stop e q =
     cond_both (eqb e stop) (Ok e) (Err (Header (fault BytesLeftOver e))) (λ r. r ≡ Ok q → (e ≡ stop) × (e ≡ q)) (λ same is. (eqb-true e stop same, cc is)) (λ other is. absurd (cc is))
 

@@ -84,7 +84,7 @@ module _ (flags : ℕ) (before : List Record) where
   pub block-filled : LawfulBlock flags before [] → ⊥
   block-filled = filled_more (SetOf (block_header before)) _ (filled-then 3 _)
 
-  shape-filled : (B : List ℕ) (p : ℕ) → Filled (body_shape flags before B p)
+  pub shape-filled : (B : List ℕ) (p : ℕ) → Filled (body_shape flags before B p)
   shape-filled B p = body-filled before (widths_of flags (flags_at B p)) (namespace_at B p) (kind_at B p) (size_at B p)
 
   module _ (B : List ℕ) (at : ℕ) (h : at ≤ length B) where

@@ -1,5 +1,5 @@
 -- What reading a whole document comes to, in the format's words. Assumes nothing.
-use Rattle.std.specs.Prelude.{◌≡◌, ℕ, ◌+◌, ◌≤◌, ◌⊎◌, true, List, length, Err}
+use Rattle.std.specs.Prelude.{◌≡◌, ℕ, ◌+◌, ◌≤◌, ◌⊎◌, true, List, [], length, Err}
 use Rattle.awd_fault.specs.Faults.{Report}
 use Rattle.awd_format.specs.Sets.{in_row}
 use Rattle.awd_header.specs.Header.{Lawful, FirstBroken, rules}
@@ -12,9 +12,9 @@ abbrev pub Whole : List ℕ → ℕ → Type 0
 Whole B n =
     (n ≤ 512) × ((ms : List (List ℕ)) × (length ms ≡ n) × Holds B ms × (12 + length (in_row ms) ≡ length B))
 
--- an open session over bytes that has taken n blocks
+-- an open session over bytes that has taken n blocks, with no edit over them
 abbrev pub having_taken : List ℕ → ℕ → State
-having_taken B n = record { source = B; opened = true; taken = n }
+having_taken B n = record { source = B; opened = true; taken = n; edits = [] }
 
 -- a fault stands behind as many lawful blocks as it tells, and bytes are left: there are 512, or no lawful block begins where they end and it is the
 -- first there

@@ -1,3 +1,4 @@
 pub mod Sheets
 pub mod Walks
 pub mod Documents
+pub mod Edits

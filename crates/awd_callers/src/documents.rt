@@ -2,6 +2,7 @@
 ghost use Rattle.std.specs.Prelude.{◌≡◌, true, MatchResult};
 ghost use Rattle.awd_fault.specs.Faults.{report};
 ghost use Rattle.awd_header.specs.Header.{Lawful};
+ghost use Rattle.awd_session.specs.State.{bytes_of};
 ghost use Rattle.awd_session.specs.View.{view};
 ghost use Rattle.awd_callers.specs.Documents.{Whole, Behind, Refused};
 
@@ -12,7 +13,7 @@ use awd_source::Source;
 
 // Takes the blocks of an opened document that are left, and tells how many it has.
 fn take_all<S: Source>(session: &mut Session<S>) -> Result<u64, Fault>
-    ensures { let B = S.bytes session.old.source in (view session.old).opened ≡ true → MatchResult result (λ n. Whole B n) (λ f. Behind B (report f)) }
+    ensures { let B = bytes_of (view session.old) in (view session.old).opened ≡ true → MatchResult result (λ n. Whole B n) (λ f. Behind B (report f)) }
 {
     // each answer but the last is a block, and 512 blocks are taken at most
     for _ in 0..=MAX_BLOCKS {

@@ -5,6 +5,9 @@
 ghost use Rattle.std.specs.Prelude.{◌≡◌, None, slice_index, slice_set};
 ghost use Rattle.awd_fault.specs.Faults.{answer};
 ghost use Rattle.awd_header.specs.Header.{opening};
+ghost use Rattle.awd_session.specs.State.{bytes_of, fresh};
+ghost use Rattle.awd_session.specs.View.{view};
+ghost use Rattle.awd_callers.specs.Edits.{first_reparented};
 
 mod documents;
 mod sheets;
@@ -45,9 +48,30 @@ pub fn open_above<S: Source>(source: S) -> (Result<Header, Fault>, Session<S>)
 
 // The same over a session that is only lent: it cannot be changed while the upper one reads it.
 pub fn open_over<S: Source>(lower: &mut Session<S>) -> Result<Header, Fault>
-    ensures answer { answer result ≡ opening (S.bytes lower.old.source) }
+    ensures answer { answer result ≡ opening (bytes_of (view lower.old)) }
     ensures same { lower.new ≡ lower.old }
 {
     let mut upper = Session::new(&*lower);
     upper.open()
+}
+
+// Opens a document, takes its first block and gives that another parent.
+fn reparent_first<S: Source>(session: &mut Session<S>, address: u32) -> Result<(), Fault>
+    ensures answer { answer result ≡ first_reparented (view session.old) address }
+    ensures source { session.new.source ≡ session.old.source }
+{
+    session.open()?;
+    session.next()?;
+    session.reparent(0, address)
+}
+
+// The same by way of a session over a session. The edit is laid above: the lower one, which may have blocks and edits of its own, is given back
+// as it was.
+pub fn reparent_above<S: Source>(lower: Session<S>, address: u32) -> (Result<(), Fault>, Session<S>)
+    ensures answer { answer result.0 ≡ first_reparented (fresh (bytes_of (view lower))) address }
+    ensures lower { view result.1 ≡ view lower }
+{
+    let mut upper = Session::new(lower);
+    let edited = reparent_first(&mut upper, address);
+    (edited, upper.close())
 }

@@ -1,6 +1,9 @@
 -- Materials and cells are where their body's shape has them.
-use Rattle.std.proofs.Common.{◌≡◌, ℕ, zero, suc, ◌+◌, ◌*◌, ◌<◌, ◌≤◌, true, eqb, List, Some, Ok, Result, sym, refl, ap, ◌∙◌, subst, arith}
+use Rattle.std.proofs.Common.{◌≡◌, ℕ, zero, suc, ◌+◌, ◌*◌, ◌<◌, ◌≤◌, true, eqb, List, take, Some, None, Ok, Option, Result, sym, refl, ap, ◌∙◌, subst, arith}
+use Rattle.std.specs.Option.{option_map}
 use Rattle.std.proofs.lemmas.Bool.{and_parts, lt-ltb, le-leb}
+use Rattle.std.proofs.lemmas.List.{drop_min}
+use Rattle.awd_source.specs.Bytes.{part}
 use Rattle.awd_block_fault.specs.declared.BlockFault.{BlockFault}
 use Rattle.awd_block_fault.specs.declared.BlockFault.TheVariants.{Field}
 use Rattle.awd_block_fault.specs.Faults.{on}
@@ -17,7 +20,7 @@ use Rattle.awd_blocks.specs.Records.{has_head, matrix_width, record_at, text_byt
 use Rattle.awd_blocks.proofs.Names.{at-number}
 use Rattle.awd_blocks.proofs.Next.{on-ok, number_fits}
 use Rattle.awd_blocks.proofs.Told.{address_end, numbers_end, body_read, head_told}
-use Rattle.awd_contents.specs.Contents.{is_mesh, materials_at, cell_place}
+use Rattle.awd_contents.specs.Contents.{cut, is_mesh, materials_at, cell_place}
 
 -- going on from what was read
 on-at : {A C F G : Type 0} (turn : F → G) (next : A → Result C G) (r : Result A F) (a : A) → r ≡ Ok a → on turn r next ≡ next a
@@ -74,3 +77,10 @@ module _ (flags : ℕ) (before : List Record) (B : List ℕ) (at e : ℕ) (is : 
       let at-g = address_end B e Geometry before x g is-g in
       let place : (text_bytes B told.name_place).place + (text_bytes B told.name_place).length + 4 ≡ g = omega (arith, at-g, x-is, told.name_whole) in
       (g, on-at (λ y. y) _ (read_of (scene_head before width) B (body_at at) e) x is-x ∙ is-g, rw (mesh-is, told.name_told) (ap Some place))
+
+-- what stands at a place, cut where the bytes end: the same, since nothing stands further on
+pub standing_at : {A : Type 0} (B : List ℕ) (f : List ℕ → A) (n : ℕ) (o : Option ℕ) (q : ℕ) → option_map (cut B) o ≡ Some q → option_map (λ p. f (part B p n)) o ≡ Some (f (part B q n))
+standing_at B f n None q is = absurd (cc is)
+standing_at B f n (Some p) q is =
+    let at : cut B p ≡ q = cc is in
+    ap (λ bytes. Some (f (take n bytes))) (sym (drop_min p B)) ∙ ap (λ x. Some (f (part B x n))) at

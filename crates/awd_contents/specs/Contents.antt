@@ -1,5 +1,5 @@
 -- What the bytes of a block have at a position: a material of a mesh instance, or a cell of a matrix. Assumes nothing.
-use Rattle.std.specs.Prelude.{ℕ, ◌+◌, ◌*◌, Bool, cond, ◌&&◌, List, Some, None, Option, ◌==◌, nat_lt, from_bits, Float}
+use Rattle.std.specs.Prelude.{ℕ, ◌+◌, ◌*◌, Bool, min, cond, ◌&&◌, List, length, Some, None, Option, ◌==◌, nat_lt, from_bits, Float}
 use Rattle.std.specs.Float.{binary32, binary64}
 use Rattle.std.specs.Option.{option_map, option_and_then}
 use Rattle.awd_source.specs.Bytes.{le, part}
@@ -10,6 +10,10 @@ use Rattle.awd_blocks.specs.Heads.{body_at}
 use Rattle.awd_blocks.specs.Records.{has_head, matrix_width}
 use Rattle.awd_contents.specs.declared.contents.Cell.{Cell}
 use Rattle.awd_contents.specs.declared.contents.Cell.TheVariants.{Single, Double}
+
+-- a place, cut where the bytes end
+abbrev pub cut : List ℕ → ℕ → ℕ
+cut B q = min q (length B)
 
 -- whether a block is a mesh instance
 abbrev pub is_mesh : Record → Bool

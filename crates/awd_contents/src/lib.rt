@@ -5,5 +5,7 @@
 mod contents;
 mod laws;
 
-pub use contents::{Cell, material, matrix_cell};
+pub use contents::{
+    Cell, behind, cell_place, is_mesh, material, material_place, matrix_cell, matrix_width,
+};
 pub use laws::contents_laws;

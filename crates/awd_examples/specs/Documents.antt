@@ -8,9 +8,9 @@ use Rattle.awd_session.specs.State.{State, fresh, after_open, next_answer, after
 use Rattle.awd_listing.specs.Listing.{listing_of, newline}
 use Rattle.awd_examples.specs.Layout.{header, sound_header, kitchen_of, kitchen, carried, modelled, lit, foreign, own_widths}
 
--- an open session that has taken so many blocks of a document
+-- an open session that has taken so many blocks of a document, with no edit over it
 abbrev pub after : List ℕ → ℕ → State
-after b taken = record { source = b; opened = true; taken = taken }
+after b taken = record { source = b; opened = true; taken = taken; edits = [] }
 
 -- it takes one block more
 abbrev pub takes : List ℕ → ℕ → Type 0

@@ -6,6 +6,7 @@ use Rattle.awd_header.specs.Widths.{Sizes, widths_of}
 use Rattle.awd_examples.specs.Layout.{header, sound_header}
 use Rattle.awd_examples.specs.Parts.{Parts}
 use Rattle.awd_examples.specs.Documents.{Documents}
+use Rattle.awd_examples.specs.Edits.{Edits}
 
 -- 176 bytes, by their flags and body length
 abbrev pub long : ℕ → ℕ → List ℕ
@@ -35,6 +36,7 @@ pub record Examples : Type 0 where
   pub body_163_streaming : opens (long 1 163) 2 1 1
   pub widths_of_document : widths_of 2 255 ≡ widths 8 4 4
   pub widths_of_block : widths_of 30 5 ≡ widths 8 4 8
-  -- and of parts of a document, and of whole ones
+  -- and of parts of a document, of whole ones, and of edits
   pub parts : Parts
   pub documents : Documents
+  pub edits : Edits

@@ -31,7 +31,7 @@ ahead-bytes at end n =
     fit_both at n end (at + n) (Ahead at end) (λ fit. (omega arith, omega arith)) (λ _. tt)
 
 module _ (read : Reading) (B : List ℕ) (end : ℕ) (ahead : (i at : ℕ) → at ≤ end → Ahead at end (read i B at end)) where
-  ahead-counted : (n i at : ℕ) → at ≤ end → Ahead at end (counted_at read B end n i at)
+  pub ahead-counted : (n i at : ℕ) → at ≤ end → Ahead at end (counted_at read B end n i at)
   ahead-counted zero i at h = (omega arith, omega arith)
   ahead-counted (suc n) i at h =
       ahead-on (in_entry i) at end (read i B at end) (λ e. counted_at read B end n (i + 1) e) (ahead i at h) (λ e _ l. ahead-counted n (i + 1) e l)
@@ -84,7 +84,7 @@ on_same turn (Ok e) f g w = w
 on_same turn (Err x) f g w = refl
 
 -- two results that go on alike
-on_alike : {F G : Type 0} (turn : F → G) (r q : Result ℕ F) (f g : ℕ → Result ℕ G) → r ≡ q → IfOk r (λ e. f e ≡ g e) → on turn r f ≡ on turn q g
+pub on_alike : {F G : Type 0} (turn : F → G) (r q : Result ℕ F) (f g : ℕ → Result ℕ G) → r ≡ q → IfOk r (λ e. f e ≡ g e) → on turn r f ≡ on turn q g
 on_alike turn r q f g same next = subst (λ q. on turn r f ≡ on turn q g) same (on_same turn r f g next)
 
 -- two fields that fit or not alike, and go on alike
@@ -97,13 +97,13 @@ get_or_part B at n i h = get_or-take n (drop at B) i 0 h ∙ get_or-drop at B i 
 
 module _ (B C : List ℕ) where
   -- the same bytes from a place to another
-  abbrev Alike : ℕ → ℕ → Type 0
+  abbrev pub Alike : ℕ → ℕ → Type 0
   Alike at end = (i : ℕ) → at ≤ i → i < end → get_or B i 0 ≡ get_or C i 0
 
-  inner : (at end p q : ℕ) → Alike at end → at ≤ p → q ≤ end → Alike p q
+  pub inner : (at end p q : ℕ) → Alike at end → at ≤ p → q ≤ end → Alike p q
   inner at end p q same l h i k j = same i (omega arith) (omega arith)
 
-  part-alike : (at n : ℕ) → at + n ≤ length B → at + n ≤ length C → Alike at (at + n) → part B at n ≡ part C at n
+  pub part-alike : (at n : ℕ) → at + n ≤ length B → at + n ≤ length C → Alike at (at + n) → part B at n ≡ part C at n
   part-alike at n b c same =
       let l = length_part B at n b in
       let k = length_part C at n c in

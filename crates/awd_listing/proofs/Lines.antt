@@ -1,23 +1,25 @@
 -- How a session goes on to its last line, and how the limit of an input is spelled.
-use Rattle.std.proofs.Common.{◌≡◌, ℕ, zero, suc, ◌+◌, ◌-◌, ◌≤◌, ◌++◌, Bool, false, cond, List, [], ◌∷◌, length, Some, None, Ok, Err, Option, Result, sym, refl, ap, ◌∙◌, append-nil, append_assoc, length-append, arith}
+use Rattle.std.proofs.Common.{◌≡◌, ℕ, zero, suc, ◌+◌, ◌-◌, ◌≤◌, ◌++◌, Bool, false, cond, ltb, List, [], ◌∷◌, length, Some, None, Ok, Err, Option, Result, sym, refl, ap, ◌∙◌, append-nil, append_assoc, length-append, arith}
 use Rattle.std.specs.Prelude.{codes, decimal, slice_get}
 use Rattle.std.specs.Fmt.{digits}
 use Rattle.std.specs.Result.{result_map_both}
 use Rattle.std.specs.Option.{option_map}
+use Rattle.std.proofs.lemmas.Bool.{cond-false, le-ltb}
 use Rattle.awd_fault.specs.Faults.{Report}
 use Rattle.awd_source.specs.declared.source.Source.{Ghosts}
+use Rattle.awd_header.specs.declared.Header.{Header}
 use Rattle.awd_roster.specs.declared.record.Record.{Record}
 use Rattle.awd_session.specs.declared.session.Session.{Session}
-use Rattle.awd_session.specs.State.{State, records_of, following, next_answer, after_next, is_block, record_answer}
+use Rattle.awd_session.specs.State.{State, fresh, bytes_of, records_of, open_answer, after_open, following, next_answer, after_next, is_block, record_answer}
 use Rattle.awd_session.specs.Laws.{Kept}
 use Rattle.awd_session.specs.View.{view}
 use Rattle.awd_session.proofs.Taken.{walk_taken}
 use Rattle.awd_session.proofs.Next.{comes_next}
-use Rattle.awd_listing.specs.Listing.{block_line, block_lines, end_line, fault_line, last_line, asked, lines_of}
+use Rattle.awd_listing.specs.Listing.{newline, opened_line, block_line, block_lines, end_line, fault_line, last_line, asked, lines_of, document_text, listing_of}
 
 -- a session tells of as many blocks as it has taken
 pub told_of_all : {S : Type 0} {source : Ghosts S} (x : Session S source) → length (records_of (view x)) ≡ (view x).taken
-told_of_all {S} {source} x = ap (λ w. length w.records) (walk_taken (source.bytes x.source) (length x.roster) _ x.taken)
+told_of_all {S} {source} x = ap (λ w. length w.records) (walk_taken (bytes_of (view x)) (length x.roster) _ x.taken)
 
 -- the answer to next is a number only where a block follows, and none or a fault only where none does
 block_follows : {B : Type 0} (n number : ℕ) (r : Result (Option B) Report) → Ok (Some number) ≡ result_map_both (option_map (λ block. n)) (λ f. f) r
@@ -38,7 +40,7 @@ fault_follows n f (Err g) is = ap Err (cc is)
 
 -- a session after a block, or after none
 abbrev after_by : State → Bool → State
-after_by s came = cond came (record { source = s.source; opened = s.opened; taken = s.taken + 1 }) s
+after_by s came = cond came (record { source = s.source; opened = s.opened; taken = s.taken + 1; edits = s.edits }) s
 
 -- a session that goes no further stays, however often it is asked
 asked_stays : (n : ℕ) (s : State) → after_next s ≡ s → asked n s ≡ s
@@ -119,3 +121,24 @@ module _ (start s : State) (n : ℕ) (going : Going start n s) (before text : Li
 pub limit_spelled : decimal 65536 ≡ codes "65536"
 unfolding digits
 limit_spelled = refl
+
+-- an input that is read is listed by what opening it answers
+module _ (b : List ℕ) (fits : length b ≤ 65536) (s : State) (is : s ≡ fresh b) where
+  listed : listing_of b ≡ document_text (fresh b) (open_answer (fresh b))
+  listed = cond-false (ltb 65536 (length b)) (codes "input over 65536" ++ newline) (document_text (fresh b) (open_answer (fresh b))) (le-ltb 65536 (length b) fits)
+
+  answered : (r : Result Header Report) → r ≡ open_answer s → document_text (fresh b) r ≡ listing_of b
+  answered r told = ap (document_text (fresh b)) (told ∙ ap open_answer is) ∙ sym listed
+
+  -- the document's line and those of its blocks
+  pub listing_opened : (h : Header) (t : State) (n : ℕ) (before first all : List ℕ) → Ok h ≡ open_answer s → t ≡ after_open s → n ≡ length b
+      → before ≡ [] → first ≡ before ++ opened_line h n → all ≡ first ++ lines_of (asked 512 t) → all ≡ listing_of b
+  listing_opened h t n before first all told state many none line lines =
+      lines
+      ∙ ap (λ x. x ++ lines_of (asked 512 t)) (line ∙ ap (λ x. x ++ opened_line h n) none ∙ ap (opened_line h) many)
+      ∙ ap (λ u. opened_line h (length b) ++ lines_of (asked 512 u)) (state ∙ ap after_open is)
+      ∙ answered (Ok h) told
+
+  -- or the line of a refusal
+  pub listing_refused : (f : Report) (before all : List ℕ) → Err f ≡ open_answer s → before ≡ [] → all ≡ before ++ fault_line f → all ≡ listing_of b
+  listing_refused f before all told none line = line ∙ ap (λ x. x ++ fault_line f) none ∙ answered (Err f) told

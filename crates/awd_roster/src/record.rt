@@ -1,6 +1,6 @@
 // What is told of a block, and what an address stands for.
 ghost use Rattle.std.specs.Prelude.{◌≡◌};
-ghost use Rattle.awd_roster.specs.Addresses.{kinds_of, may_be_none, has};
+ghost use Rattle.awd_roster.specs.Addresses.{kinds_of, may_be_none, has, fits};
 
 use crate::kind::BlockKind;
 
@@ -23,10 +23,19 @@ pub struct Record {
     pub place: u64,
     // of the block's body
     pub size: u32,
-    // the parent's address as the file has it, 0 at the root; none where the block has no such field
+    // the parent's address, 0 at the root; none where the block has no such field
     pub parent: Option<u32>,
     // the bytes of the name; none where the block has no such field
     pub name: Option<Span>,
+}
+
+impl Record {
+    // Whether an address may name the block.
+    pub(crate) fn fits(&self, target: Target, id: u32) -> bool
+        ensures { result ≡ fits target id self.now }
+    {
+        self.id == id && self.namespace == 0 && target.allows(self.kind)
+    }
 }
 
 // What an address is to name.

@@ -1,10 +1,10 @@
 // The table of taken blocks, and what it answers. (A block's number has 64 bits; std has no `From` between these and `usize`, so it is cast.)
-ghost use Rattle.std.specs.Prelude.{◌≡◌, ◌+◌, ◌≤◌, ◌==◌, List, [], length, slice_get, position, IfSome};
+ghost use Rattle.std.specs.Prelude.{◌≡◌, ◌+◌, ◌≤◌, ◌==◌, List, [], length, take, slice_get, position, IfSome};
 ghost use Rattle.awd_roster.specs.declared.record.Record.{Record};
 ghost use Rattle.awd_roster.specs.Addresses.{named, lawful_address};
 ghost use Rattle.awd_roster.specs.Lookups.{number_of, path_of, Climbs};
 ghost use Rattle.awd_roster.specs.Sequence.{persistent, in_sequence};
-ghost use Rattle.awd_roster.specs.Table.{added};
+ghost use Rattle.awd_roster.specs.Table.{added, reparented};
 
 use crate::record::{Record, Target};
 use arrayvec::ArrayVec;
@@ -81,6 +81,16 @@ impl Roster {
         }
     }
 
+    // Another parent in the record of a block; a number that no block has changes nothing.
+    #[tactic(auto, using(crate::proofs::Kin::reparented_written, crate::proofs::Kin::reparented_past))]
+    pub fn reparent(&mut self, number: u64, parent: Option<u32>)
+        ensures { self.new ≡ reparented self.old number parent }
+    {
+        if let Some(record) = self.records.get_mut(number as usize) {
+            record.parent = parent;
+        }
+    }
+
     // The record of a block by its number.
     pub fn record(&self, number: u64) -> Option<Record>
         ensures { result ≡ slice_get self.now number }
@@ -105,11 +115,25 @@ impl Roster {
         self.records.iter().position(|r| r.id == id)
     }
 
-    // Whether a block that may be named has an ID.
-    fn names(&self, target: Target, id: u32) -> bool
-        ensures { result ≡ named target id self.now }
+    // Whether an address is lawful in the block of a number: it may name those before it.
+    pub fn lawful_before(&self, number: u64, target: Target, address: u32) -> bool
+        ensures { result ≡ lawful_address target (take number self.now) address }
     {
-        self.records.iter().any(|r| r.id == id && r.namespace == 0 && target.allows(r.kind))
+        if address == 0 {
+            target.may_be_none()
+        } else {
+            self.names(number, target, address)
+        }
+    }
+
+    // Whether a block that may be named, before that of a number, has an ID.
+    fn names(&self, number: u64, target: Target, id: u32) -> bool
+        ensures { result ≡ named target id (take number self.now) }
+    {
+        self.records
+            .iter()
+            .take(number as usize)
+            .any(|r| r.fits(target, id))
     }
 
     // How many parents lie between a block and the root; none where its parents do not lead there.
@@ -138,10 +162,6 @@ impl Earlier for Roster {
     }
 
     fn lawful(&self, target: Target, address: u32) -> bool {
-        if address == 0 {
-            target.may_be_none()
-        } else {
-            self.names(target, address)
-        }
+        self.lawful_before(self.count(), target, address)
     }
 }

@@ -1,5 +1,5 @@
-// A session over a source of bytes: it opens the document that the source holds, takes its blocks one after another, tells what they say, and is
-// itself a source. It owns what it reads from and gives it back when it is closed.
+// A session over a source of bytes: it opens the document that the source holds, takes its blocks one after another, tells what they say, lays
+// edits over them, and is itself a source. It owns what it reads from and gives it back when it is closed.
 // This crate knows nothing of printing, nor of what kind its source is.
 #![tactic(auto)]
 

@@ -1,34 +1,42 @@
 // The session: what it keeps, how it opens a document and takes blocks, and that it is a source.
-ghost use Rattle.std.specs.Prelude.{◌≡◌, true, None, Ok, length, IfSome, OnErr};
+ghost use Rattle.std.specs.Prelude.{◌≡◌, true, [], None, Ok, length, IfSome, OnErr};
 ghost use Rattle.std.proofs.Props.{props};
 ghost use Rattle.awd_fault.specs.Faults.{answer};
 ghost use Rattle.awd_header.specs.Header.{Right, opening};
 ghost use Rattle.awd_blocks.specs.Lists.{read_blocks};
+ghost use Rattle.awd_edits.specs.Overlay.{overlay};
+ghost use Rattle.awd_changes.specs.Standing.{may_stand};
 
 use awd_blocks::{Block, block_at};
+use awd_edits::Edits;
 use awd_fault::{Cause, Fault};
 use awd_header::{HEADER_SIZE, Header, read_header};
 use awd_roster::{MAX_BLOCKS, Roster};
 use awd_source::Source;
 
+mod changes;
+mod promise;
 mod questions;
 
-// Open where it has a header: the one that opening the bytes of its source answers. Its roster tells what reading as many blocks of them finds,
-// and `end` is the place where they end. (No Model: contracts name the source itself.)
+// Open where it has a header: the one that opening the bytes of its source answers. Its roster tells what reading as many blocks of its own
+// bytes finds, and `end` is the place where they end. Its edits stand over those blocks. (No Model: contracts name the source itself.)
 #[derive(Drop)]
 pub struct Session<S: Source> {
     source: S,
     header: Option<Header>,
     roster: Roster,
     end: u64,
+    edits: Edits,
     ghost told: { IfSome header (λ h. opening (S.bytes source) ≡ Ok h) } by { Prim.hlevel props },
-    ghost taken: { read_blocks (S.bytes source) (length roster) ≡ Ok (record { records = roster; end = end }) },
+    ghost taken: { read_blocks (overlay (S.bytes source) edits) (length roster) ≡ Ok (record { records = roster; end = end }) },
+    ghost stand: { may_stand (S.bytes source) edits (length roster) ≡ true },
     ghost closed: { header ≡ None → length roster ≡ 0 },
+    ghost unedited: { header ≡ None → edits ≡ [] },
 }
 
 impl<S: Source> Session<S> {
     ghost use Rattle.awd_session.specs.State.{fresh, open_answer, after_open, header_answer, following, next_answer, after_next};
-    ghost use Rattle.awd_session.specs.Laws.{NextRight, Kept};
+    ghost use Rattle.awd_session.specs.Laws.{NextRight, Kept, Stays};
     ghost use Rattle.awd_session.specs.View.{view};
 
     // A session that has not opened its document yet.
@@ -41,6 +49,7 @@ impl<S: Source> Session<S> {
             header: None,
             roster: Roster::new(),
             end: HEADER_SIZE,
+            edits: Edits::new(),
         }
     }
 
@@ -49,6 +58,7 @@ impl<S: Source> Session<S> {
         ensures answer { answer result ≡ open_answer (view self.old) }
         ensures state { view self.new ≡ after_open (view self.old) }
         ensures right { self.old.header ≡ None → Right (S.bytes self.old.source) result }
+        ensures stays { Stays (view self.old) (view self.new) }
         ensures same { OnErr result (self.new ≡ self.old) }
         ensures source { self.new.source ≡ self.old.source }
     {
@@ -66,7 +76,8 @@ impl<S: Source> Session<S> {
         self.header
     }
 
-    // The block after the taken ones, or none where they use the bytes up. (The fault's turn was tried as `map_err`: what is ensured stayed open.)
+    // The block after the taken ones, or none where they use the bytes up. It is read from the source below: no edit lies behind the taken
+    // blocks. (The fault's turn was tried as `map_err`: what is ensured stayed open.)
     fn following(&self) -> Result<Option<Block>, Fault>
         ensures { answer result ≡ following (view self.now) }
     {
@@ -86,12 +97,14 @@ impl<S: Source> Session<S> {
         }
     }
 
-    // Takes the next block and tells its number, or none where the bytes are used up. A refusal leaves the session as it was, so the same one comes again.
+    // Takes the next block and tells its number, or none where the bytes are used up. A refusal leaves the session as it was, so the same one
+    // comes again.
     pub fn next(&mut self) -> Result<Option<u64>, Fault>
         ensures answer { answer result ≡ next_answer (view self.old) }
         ensures state { view self.new ≡ after_next (view self.old) }
         ensures right { (view self.old).opened ≡ true → NextRight (view self.old) (answer result) }
         ensures kept { Kept (view self.old) (view self.new) }
+        ensures stays { Stays (view self.old) (view self.new) }
         ensures same { OnErr result (self.new ≡ self.old) }
         ensures source { self.new.source ≡ self.old.source }
     {
@@ -112,15 +125,16 @@ impl<S: Source> Session<S> {
     }
 }
 
-// A session stands for the bytes of its source.
+// A session stands for the bytes of its source with the standing edits laid over them.
 impl<S: Source> Source for Session<S> {
-    ghost bytes = { λ s. S.bytes s.source };
+    ghost bytes = { λ s. overlay (S.bytes s.source) s.edits };
 
+    #[tactic(auto, using(awd_edits::proofs::Lays::length_overlay))]
     fn length(&self) -> u64 {
         self.source.length()
     }
 
     fn byte(&self, at: u64) -> Option<u8> {
-        self.source.byte(at)
+        self.edits.byte(&self.source, at)
     }
 }

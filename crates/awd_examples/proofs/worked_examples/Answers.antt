@@ -1,4 +1,5 @@
 use Rattle.std.proofs.Common.{refl}
+use Rattle.std.specs.Float.Ieee.{of_fields, of_bits, to_bits, is_nan}
 use Rattle.std.specs.Fmt.{digits}
 use Rattle.awd_bodies.specs.Fields.{numbers}
 use Rattle.awd_blocks.specs.Blocks.{kind_body, body_of}
@@ -6,7 +7,7 @@ use Rattle.awd_listing.specs.Listing.{asked}
 use Rattle.awd_examples.proofs.worked_examples.Goals as goal
 
 pub returns : goal.returns
-unfolding digits numbers kind_body body_of asked
+unfolding digits of_fields of_bits to_bits is_nan numbers kind_body body_of asked
 returns c =
     record {
       sound = refl;
@@ -106,5 +107,51 @@ returns c =
         foreign_told = refl;
         own_widths_taken = refl;
         own_cell = refl;
+      };
+      edits = record {
+        reparent_1 = refl;
+        reparent_3 = refl;
+        reparent_2 = refl;
+        reparent_0 = refl;
+        bytes_108 = refl;
+        source_108 = refl;
+        told_0 = refl;
+        path_0 = refl;
+        undone = refl;
+        as_before = refl;
+        bytes_undone = refl;
+        path_1 = refl;
+        nothing_to_undo = refl;
+        undo_not_open = refl;
+        reparent_carried = refl;
+        reparent_no_block = refl;
+        reparent_not_open = refl;
+        after_refusal = refl;
+        dress_bare = refl;
+        dress_container = refl;
+        dress_0 = refl;
+        dress_2 = refl;
+        dress_1 = refl;
+        dress_behind = refl;
+        material_0 = refl;
+        first_material = refl;
+        material_2 = refl;
+        nudge = refl;
+        nudged = refl;
+        nudge_narrow = refl;
+        nudge_12 = refl;
+        nudge_no_number = refl;
+        nudge_narrow_no_number = refl;
+        nudge_carried = refl;
+        nudge_wide = refl;
+        nudge_again = refl;
+        cell_twice = refl;
+        cell_once = refl;
+        bytes_once = refl;
+        back_to_once = refl;
+        edit_256 = refl;
+        edit_257 = refl;
+        refused_first = refl;
+        undo_256 = refl;
       };
     }

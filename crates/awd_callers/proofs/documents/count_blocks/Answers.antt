@@ -1,9 +1,10 @@
 use Rattle.std.proofs.Common.{◌≡◌, true, ap, ◌∙◌, subst, MatchResult}
 use Rattle.awd_header.specs.Header.{Lawful}
 use Rattle.awd_fault.specs.Faults.{report}
+use Rattle.awd_session.specs.State.{bytes_of}
 use Rattle.awd_session.specs.View.{view}
 use Rattle.awd_callers.specs.Documents.{Whole, Behind}
-use Rattle.awd_callers.proofs.Endings.{taken_whole, no_header, opens}
+use Rattle.awd_callers.proofs.Endings.{taken_whole, no_header, opens, opened_bytes}
 use Rattle.awd_callers.proofs.documents.count_blocks.Goals as goal
 
 pub returns : goal.returns
@@ -14,6 +15,6 @@ returns g c =
     let none = no_header made.header (ap (λ s. s.opened) c.new-session.ensures.state) in
     let right = c.in_ok-open.ensures.right none in
     let lawful : Lawful B = subst Lawful over right.lawful in
-    let now-over = ap (λ s. g.S.Source.bytes s.now) c.open.ensures.source ∙ over in
+    let now-over : bytes_of (view c.open.new.self) ≡ B = opened_bytes (view made) (view c.open.new.self) c.open.ensures.state ∙ ap bytes_of c.new-session.ensures.state in
     let opened : (view c.open.new.self).opened ≡ true = ap (λ s. s.opened) c.open.ensures.state ∙ opens (view made) c.in_ok-open.field-0 c.in_ok-open.ensures.answer in
     taken_whole B lawful c.take_all.result (subst (λ b. MatchResult c.take_all.result (λ n. Whole b n) (λ f. Behind b (report f))) now-over (c.take_all.ensures opened))

@@ -1,8 +1,7 @@
-use Rattle.std.proofs.Common.{length}
-use Rattle.awd_session.proofs.Taken.{walk_taken}
+use Rattle.awd_session.proofs.Taken.{walked}
 use Rattle.awd_session.proofs.session.Session.record.Goals as goal
 
 pub returns : goal.returns
 returns g c =
     let s = c.args.self.now in
-    rw (walk_taken (g.S.Source.bytes s.source) (length s.roster) _ s.taken) c.record.ensures
+    rw (walked (g.S.Source.bytes s.source) s.header s.roster s.end s.edits s.told s.taken s.stand) c.record.ensures

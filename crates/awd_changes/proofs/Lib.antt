@@ -1,0 +1,11 @@
+pub mod Header
+pub mod Kin
+pub mod Kept
+pub mod Behind
+pub mod Lists
+pub mod Shapes
+pub mod Places
+pub mod Blocks
+pub mod Laid
+pub mod Standing
+pub mod Exact

@@ -1,0 +1,3 @@
+pub mod Finds
+pub mod Latest
+pub mod Lays

@@ -1,0 +1,45 @@
+// Three sessions over one document: over the document as it was read, over its pages, and over a session over a part of a longer run.
+use crate::copies::{Framed, Shuffled};
+use awd_calls::Call;
+use awd_fault::Fault;
+use awd_history::make;
+use awd_session::Session;
+use awd_source::{Pages, Run, Window};
+use std::alloc::{AllocError, Global};
+
+#[derive(Drop)]
+pub struct Replicas<'a> {
+    plain: Session<Run<'a>>,
+    paged: Session<Pages<'a>>,
+    nested: Session<Session<Window<Run<'a>>>>,
+}
+
+// What the first answers, as a line, and whether the others answer the same.
+#[derive(Drop)]
+pub struct Answered {
+    pub text: String,
+    pub same: bool,
+}
+
+impl<'a> Replicas<'a> {
+    pub fn new(
+        document: &'a [u8],
+        shuffled: &'a Shuffled,
+        framed: &'a Framed,
+    ) -> Result<Replicas<'a>, Fault> {
+        Ok(Replicas {
+            plain: Session::new(Run::new(document)),
+            paged: Session::new(shuffled.source()?),
+            nested: Session::new(Session::new(framed.source())),
+        })
+    }
+
+    // Makes a call on all three. Their answers are compared as lines: a float that is not a number is not equal to itself.
+    pub fn make(&mut self, heap: Global, call: Call) -> Result<Answered, AllocError> {
+        let text = make(&mut self.plain, call).to_string(heap)?;
+        let paged = make(&mut self.paged, call).to_string(heap)?;
+        let nested = make(&mut self.nested, call).to_string(heap)?;
+        let same = paged == text && nested == text;
+        Ok(Answered { text, same })
+    }
+}
