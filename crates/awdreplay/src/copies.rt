@@ -1,4 +1,7 @@
 // Copies of a document that lie otherwise in memory.
+ghost use Rattle.std.specs.Prelude.{◌≡◌, length, IfOk};
+ghost use Rattle.awd_source.specs.Bytes.{part};
+
 use anyhow::bail;
 use awd_fault::Fault;
 use awd_source::{Pages, Run, Window};
@@ -25,7 +28,10 @@ pub struct Shuffled {
 }
 
 impl Shuffled {
-    pub fn new(heap: Global, document: &[u8]) -> anyhow::Result<Shuffled> {
+    // That these pages in this order are the document is not proved here; the comparison of the replicas tries it.
+    pub fn new(heap: Global, document: &[u8]) -> anyhow::Result<Shuffled>
+        ensures { IfOk result (λ s. s.size ≡ length document.now) }
+    {
         let Ok(count) = u16::try_from(document.len().div_ceil(PAGE)) else {
             bail!("document over {MAX_PAGED}");
         };
@@ -40,7 +46,10 @@ impl Shuffled {
         })
     }
 
-    pub fn source(&self) -> Result<Pages<'_>, Fault> {
+    // The listed pages, cut to the document's length.
+    pub fn source(&self) -> Result<Pages<'_>, Fault>
+        ensures { IfOk result (λ p. (p.run.held.now ≡ self.now.stored.items) × (p.list.now ≡ self.now.list.items) × (p.size ≡ self.now.size)) }
+    {
         let mut pages = Pages::new();
         pages.fill(
             Run::new(self.stored.as_slice()),
@@ -70,18 +79,22 @@ pub struct Framed {
 }
 
 impl Framed {
-    pub fn new(heap: Global, document: &[u8]) -> Result<Framed, AllocError> {
+    // The document stands behind the bytes in front.
+    pub fn new(heap: Global, document: &[u8]) -> Result<Framed, AllocError>
+        ensures { IfOk result (λ f. part f.stored.items 7 f.size ≡ document.now) }
+    {
         let mut stored = Vec::new(heap);
         stored.resize(IN_FRONT as usize, FILLER)?;
         stored.extend_from_slice(document)?;
         stored.extend_from_slice(&[FILLER; BEHIND])?;
-        Ok(Framed {
-            stored,
-            size: document.len(),
-        })
+        let size = document.len();
+        Ok(Framed { stored, size })
     }
 
-    pub fn source(&self) -> Window<Run<'_>> {
+    // A window that shows the document alone.
+    pub fn source(&self) -> Window<Run<'_>>
+        ensures { (result.below.held.now ≡ self.now.stored.items) × (result.start ≡ 7) × (result.size ≡ self.now.size) }
+    {
         Window::new(Run::new(self.stored.as_slice()), IN_FRONT, self.size as u64)
     }
 }

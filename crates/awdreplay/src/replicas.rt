@@ -1,4 +1,11 @@
 // Three sessions over one document: over the document as it was read, over its pages, and over a session over a part of a longer run.
+ghost use Rattle.std.specs.Prelude.{◌≡◌, IfOk, OnOk};
+ghost use Rattle.awd_source.specs.Bytes.{part};
+ghost use Rattle.awd_source.specs.Pages.{paged};
+ghost use Rattle.awd_session.specs.State.{fresh};
+ghost use Rattle.awd_session.specs.View.{view};
+ghost use Rattle.awd_history.specs.Calls.{after};
+
 use crate::copies::{Framed, Shuffled};
 use awd_calls::Call;
 use awd_fault::Fault;
@@ -22,11 +29,16 @@ pub struct Answered {
 }
 
 impl<'a> Replicas<'a> {
+    // Three sessions that were just made.
     pub fn new(
         document: &'a [u8],
         shuffled: &'a Shuffled,
         framed: &'a Framed,
-    ) -> Result<Replicas<'a>, Fault> {
+    ) -> Result<Replicas<'a>, Fault>
+        ensures plain { IfOk result (λ r. view r.plain ≡ fresh document.now) }
+        ensures paged { IfOk result (λ r. view r.paged ≡ fresh (paged shuffled.now.stored.items shuffled.now.list.items shuffled.now.size)) }
+        ensures nested { IfOk result (λ r. view r.nested ≡ fresh (part framed.now.stored.items 7 framed.now.size)) }
+    {
         Ok(Replicas {
             plain: Session::new(Run::new(document)),
             paged: Session::new(shuffled.source()?),
@@ -35,7 +47,11 @@ impl<'a> Replicas<'a> {
     }
 
     // Makes a call on all three. Their answers are compared as lines: a float that is not a number is not equal to itself.
-    pub fn make(&mut self, heap: Global, call: Call) -> Result<Answered, AllocError> {
+    pub fn make(&mut self, heap: Global, call: Call) -> Result<Answered, AllocError>
+        ensures plain { OnOk result (view self.new.plain ≡ after call (view self.old.plain)) }
+        ensures paged { OnOk result (view self.new.paged ≡ after call (view self.old.paged)) }
+        ensures nested { OnOk result (view self.new.nested ≡ after call (view self.old.nested)) }
+    {
         let text = make(&mut self.plain, call).to_string(heap)?;
         let paged = make(&mut self.paged, call).to_string(heap)?;
         let nested = make(&mut self.nested, call).to_string(heap)?;
