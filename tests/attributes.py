@@ -18,6 +18,9 @@ from agreement import compare
 SIZES = {1: 1, 2: 2, 3: 4, 4: 1, 5: 2, 6: 4, 7: 4, 8: 8, 21: 1, 22: 4, 23: 4, 31: None, 32: None}
 SIGNED = {1: "<b", 2: "<h", 3: "<i"}
 
+# what comes behind so many bytes is not looked at
+LIMIT = 65_536
+
 
 class Fault(Exception):
     """A cause and a place."""
@@ -70,6 +73,7 @@ def attribute(data, place):
 
 def listing(data):
     """What awdattr has to write for an input."""
+    data = data[:LIMIT]
     lines = []
     place = 0
     while place < len(data):
@@ -108,6 +112,9 @@ def inputs(rng):
         yield spell(0, b"", 8, struct.pack("<Q", bits))
     for size in (0xFFFF, 0xFFFFFFFF, 0x80000000):
         yield spell(0, b"", 32, b"abc", size)
+    # inputs as long as may be, a byte longer, and of which the last attribute is cut off there
+    longest = spell(0, b"", 32, bytes(LIMIT - 8))
+    yield from (longest, longest + b"\x01", spell(0, b"", 32, bytes(LIMIT - 7)))
     for _ in range(1500):
         data = b""
         for _ in range(rng.randrange(6)):

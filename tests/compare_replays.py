@@ -25,7 +25,10 @@ from replayer import answered_lines, replay
 
 SEED = 4
 
-# the answers that must be met of each call; only 3 is not among them, for which a document has to be over 16 MiB
+# the bytes of 65,535 pages
+LONGEST = 33_553_920
+
+# the answers that must be met of each call; only 3 is not among them, for which a document has to be over 16 MiB (see `longest_opened`)
 EDITS = {
     "reparent": ("ok", *(f"fault {cause}" for cause in (8, 14, 18, 19, 20))),
     "dress": ("ok", *(f"fault {cause}" for cause in (8, 14, 18, 19, 20, 21))),
@@ -125,10 +128,28 @@ def ends_otherwise(program):
     return all(end.returncode == 1 and end.stderr and not end.stdout for end in ends)
 
 
+def longest_opened(program):
+    """The longest document that fits 65,535 pages is read by all three sessions and refused as too long; a longer one ends the program."""
+    folder = pathlib.Path(tempfile.mkdtemp(prefix="longest-"))
+    calls = f"length\nbyte 0\nbyte {LONGEST - 1}\nbyte {LONGEST}\nopen\n"
+    expected = f"{LONGEST}\nsome 7\nsome 9\nnone\nfault 3 16777216 0 0 -\nreplicas agree\n"
+    document = bytes([7]) + bytes(LONGEST - 2) + bytes([9])
+    ends = [run(program, folder, document, calls) == (expected, 0, b"")]
+    written, status, errors = run(program, folder, document + bytes(1), calls)
+    ends.append(not written and status == 1 and bool(errors))
+    for path in folder.iterdir():
+        path.unlink()
+    folder.rmdir()
+    return all(ends)
+
+
 def main(program, changing_seed):
     """The exit status: 0 where both agree on all lists and each outcome was met, and the program ends otherwise where it should."""
     if not ends_otherwise(program):
         print("awdreplay does not end as it should without a document")
+        return 1
+    if not longest_opened(program):
+        print("awdreplay does not read the longest document, or reads a longer one")
         return 1
     tally = Tally()
     for seed in (SEED, changing_seed):

@@ -11,6 +11,7 @@ ghost use Rattle.awd_callers.specs.Edits.{first_reparented};
 
 mod documents;
 mod sheets;
+mod values;
 mod walks;
 
 use awd_fault::Fault;
@@ -19,6 +20,7 @@ use awd_session::Session;
 use awd_source::{Run, Source};
 pub use documents::count_blocks;
 pub use sheets::{Sheet, sheets_at};
+pub use values::plain_values;
 pub use walks::count_attributes;
 
 // The byte at place 1, read by way of a part of a run; then 7 is written there. While the part is in use the

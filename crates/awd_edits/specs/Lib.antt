@@ -1,3 +1,4 @@
 pub mod Laws
 pub mod Overlay
+pub mod Spots
 pub mod Table

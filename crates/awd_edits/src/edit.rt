@@ -1,6 +1,10 @@
 // One edit.
-ghost use Rattle.std.specs.Prelude.{◌≡◌};
-ghost use Rattle.awd_edits.specs.Overlay.{byte_laid, bytes_laid};
+ghost use Rattle.std.specs.Prelude.{◌≡◌, ◌+◌, ◌≤◌, [], ◌∷◌, List, ℕ, length};
+ghost use Rattle.awd_edits.specs.declared.edit.Laid.TheVariants.{Four};
+ghost use Rattle.awd_edits.specs.Overlay.{bytes_laid};
+ghost use Rattle.awd_edits.specs.Spots.{spots_over};
+
+use awd_places::LaidBytes;
 
 // A field that may be edited.
 #[derive(Clone, Copy, PartialEq, Eq, Default, Debug)]
@@ -23,6 +27,8 @@ pub enum Laid {
 
 // Four bytes of 0: a value for the unused places of a table.
 impl Default for Laid {
+    ghost is_default = { λ laid. laid ≡ Four (0 ∷ 0 ∷ 0 ∷ 0 ∷ []) };
+
     fn default() -> Laid {
         Laid::Four([0; 4])
     }
@@ -31,7 +37,8 @@ impl Default for Laid {
 impl Laid {
     // The bytes themselves.
     fn bytes(&self) -> &[u8]
-        ensures { result.now ≡ bytes_laid self.now }
+        ensures value { result.now ≡ bytes_laid self.now }
+        ensures few { length result.now ≤ 8 }
     {
         match self {
             Laid::Four(bytes) => bytes,
@@ -51,11 +58,27 @@ pub struct Edit {
 }
 
 impl Edit {
-    // The byte that it lays at a place, or none where it lays none. (A place has 64 bits; std has no `From` to `usize`, so it is cast.)
-    pub(crate) fn byte(&self, at: u64) -> Option<u8>
-        ensures { result ≡ byte_laid self.now at }
+    // Lays its bytes over others, none at a place beyond 64 bits.
+    pub(crate) fn lay_over(&self, bytes: &mut LaidBytes)
+        requires { length bytes.old + 8 ≤ 2048 }
+        ensures laid { bytes.new ≡ spots_over bytes.old self.now }
+        ensures few { length (bytes_laid self.now.laid) ≤ 8 }
     {
-        let further = at.checked_sub(self.place)?;
-        self.laid.bytes().get(further as usize).copied()
+        for (further, byte) in self.laid.bytes().iter().enumerate() {
+            if let Some(place) = self.place.checked_add(further as u64) {
+                bytes.push(place, *byte);
+            }
+        }
+    }
+
+    // Takes its bytes away again, if they are the latest.
+    pub(crate) fn take_off(&self, bytes: &mut LaidBytes)
+        ensures { (below : List (ℕ × ℕ)) → bytes.old ≡ spots_over below self.now → bytes.new ≡ below }
+    {
+        for further in 0..self.laid.bytes().len() {
+            if self.place.checked_add(further as u64).is_some() {
+                bytes.pop();
+            }
+        }
     }
 }

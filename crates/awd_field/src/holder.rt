@@ -64,11 +64,12 @@ impl<'a, S: Source> Holder<'a, S> {
 
     // A number of so many bytes. (It is told as a u64 whatever its size: one text serves all sizes, and what is below 256^size fits the type
     // that a caller takes it to.)
+    #[tactic(auto, using(crate::proofs::Digits::told))]
     pub fn number_at(&self, at: u64, size: NumberSize) -> Result<u64, FieldFault>
         ensures value { result ≡ number_at (held self.now) at self.now.end size.bytes }
         ensures fits { IfOk result (λ v. (at + size.bytes ≤ self.now.end) × (v ≡ le (part (held self.now) at size.bytes)) × (v < 256 ^ size.bytes)) }
     {
-        let stop = self.bytes_at(at, size.bytes)?;
-        Ok(spell(self.source, at, stop))
+        self.bytes_at(at, size.bytes)?;
+        Ok(spell(self.source, at, size.bytes))
     }
 }

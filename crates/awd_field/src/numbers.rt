@@ -1,5 +1,5 @@
 // Little-endian numbers: the lowest byte comes first.
-ghost use Rattle.std.specs.Prelude.{◌≡◌, ◌-◌, ◌^◌, ◌<◌, ◌≤◌, length};
+ghost use Rattle.std.specs.Prelude.{◌≡◌, ◌+◌, ◌^◌, ◌<◌, ◌≤◌, length};
 ghost use Rattle.awd_source.specs.Bytes.{le, part};
 
 use awd_source::Source;
@@ -18,17 +18,19 @@ pub const TWO: NumberSize = NumberSize { bytes: 2 };
 
 pub const FOUR: NumberSize = NumberSize { bytes: 4 };
 
-// The number that the bytes from one place to another spell.
-pub(crate) fn spell<S: Source>(source: &S, at: u64, stop: u64) -> u64
-    requires inside { stop ≤ length (S.bytes source.now) }
-    requires few { stop - at ≤ 8 }
-    ensures value { let B = S.bytes source.now in result ≡ le (part B at (stop - at)) }
-    ensures below { result < 256 ^ (stop - at) }
+// The number that so many bytes from a place on spell. (By their number and not by the place where they end: where that is known when the
+// code is compiled, there is no loop.)
+pub(crate) fn spell<S: Source>(source: &S, at: u64, size: u64) -> u64
+    requires inside { at + size ≤ length (S.bytes source.now) }
+    requires fits { at + size < 2 ^ 64 }
+    requires few { size ≤ 8 }
+    ensures value { let B = S.bytes source.now in result ≡ le (part B at size) }
+    ensures below { result < 256 ^ size }
 {
     let mut value: u64 = 0;
-    for place in (at..stop).rev() {
+    for further in (0..size).rev() {
         // the source does not end before the last place, so the byte is there
-        let Some(b) = source.byte(place) else {
+        let Some(b) = source.byte(at + further) else {
             unreachable()
         };
         value = value * 256 + u64::from(b);
@@ -38,10 +40,17 @@ pub(crate) fn spell<S: Source>(source: &S, at: u64, stop: u64) -> u64
 
 // The number that stands at a place which has been judged before. Bytes behind the source's end would count as 0. (A u64 for every size: what
 // is below 256^size is taken to the narrower type by `as`.)
+#[tactic(auto, using(crate::proofs::Digits::cut_short))]
 pub fn spelled_at<S: Source>(source: &S, at: u64, size: NumberSize) -> u64
     ensures value { let B = S.bytes source.now in result ≡ le (part B at size.bytes) }
     ensures below { result < 256 ^ size.bytes }
 {
-    let stop = at.saturating_add(size.bytes).min(source.length());
-    spell(source, at, stop)
+    let length = source.length();
+    match at.checked_add(size.bytes) {
+        Some(stop) if stop <= length => spell(source, at, size.bytes),
+        _ => {
+            let start = at.min(length);
+            spell(source, start, length - start)
+        }
+    }
 }

@@ -21,7 +21,9 @@ fn earlier(one: Option<u64>, other: Option<u64>) -> Option<u64>
     one.into_iter().chain(other).min()
 }
 
-// The place of the first index that is not below a limit, where indices of 16 bits stand one after another.
+// The place of the first index that is not below a limit, where indices of 16 bits stand one after another. (Most of the time of reading a
+// large geometry goes by here; inside its caller the loop's numbers would not all be kept in registers.)
+#[inline(never)]
 fn first_not_below<S: Source>(indices: &S, limit: u64) -> Option<u64>
     ensures found { result ≡ first_not_below limit (S.bytes indices.now) }
     ensures inside { Inside (S.bytes indices.now) result }

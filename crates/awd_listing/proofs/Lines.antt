@@ -1,52 +1,16 @@
 -- How a session goes on to its last line, and how the limit of an input is spelled.
-use Rattle.std.proofs.Common.{◌≡◌, ℕ, zero, suc, ◌+◌, ◌-◌, ◌≤◌, ◌++◌, Bool, false, cond, ltb, List, [], ◌∷◌, length, Some, None, Ok, Err, Option, Result, sym, refl, ap, ◌∙◌, append-nil, append_assoc, length-append, arith}
+use Rattle.std.proofs.Common.{◌≡◌, ℕ, suc, ◌+◌, ◌≤◌, ◌++◌, ltb, List, [], ◌∷◌, length, Some, None, Ok, Err, Result, sym, refl, ap, ◌∙◌, append-nil, append_assoc, length-append, arith}
 use Rattle.std.specs.Prelude.{codes, decimal, slice_get}
 use Rattle.std.specs.Fmt.{digits}
-use Rattle.std.specs.Result.{result_map_both}
-use Rattle.std.specs.Option.{option_map}
 use Rattle.std.proofs.lemmas.Bool.{cond-false, le-ltb}
 use Rattle.awd_fault.specs.Faults.{Report}
-use Rattle.awd_source.specs.declared.source.Source.{Ghosts}
 use Rattle.awd_header.specs.declared.Header.{Header}
 use Rattle.awd_roster.specs.declared.record.Record.{Record}
-use Rattle.awd_session.specs.declared.session.Session.{Session}
-use Rattle.awd_session.specs.State.{State, fresh, bytes_of, records_of, open_answer, after_open, following, next_answer, after_next, is_block, record_answer}
+use Rattle.awd_session.specs.State.{State, fresh, records_of, open_answer, after_open, next_answer, after_next, record_answer}
 use Rattle.awd_session.specs.Laws.{Kept}
-use Rattle.awd_session.specs.View.{view}
-use Rattle.awd_session.proofs.Taken.{walk_taken}
-use Rattle.awd_session.proofs.Next.{comes_next}
-use Rattle.awd_listing.specs.Listing.{newline, opened_line, block_line, block_lines, end_line, fault_line, last_line, asked, lines_of, document_text, listing_of}
-
--- a session tells of as many blocks as it has taken
-pub told_of_all : {S : Type 0} {source : Ghosts S} (x : Session S source) → length (records_of (view x)) ≡ (view x).taken
-told_of_all {S} {source} x = ap (λ w. length w.records) (walk_taken (bytes_of (view x)) (length x.roster) _ x.taken)
-
--- the answer to next is a number only where a block follows, and none or a fault only where none does
-block_follows : {B : Type 0} (n number : ℕ) (r : Result (Option B) Report) → Ok (Some number) ≡ result_map_both (option_map (λ block. n)) (λ f. f) r
-    → (block : B) × (Ok (Some block) ≡ r) × (number ≡ n)
-block_follows n number (Ok (Some block)) is = (block, refl, cc is)
-block_follows n number (Ok None) is = absurd (cc is)
-block_follows n number (Err f) is = absurd (cc is)
-
-none_follows : {B : Type 0} (n : ℕ) (r : Result (Option B) Report) → result_map_both (option_map (λ block. n)) (λ f. f) r ≡ Ok None → r ≡ Ok None
-none_follows n (Ok (Some block)) is = absurd (cc is)
-none_follows n (Ok None) is = refl
-none_follows n (Err f) is = absurd (cc is)
-
-fault_follows : {B : Type 0} (n : ℕ) (f : Report) (r : Result (Option B) Report) → result_map_both (option_map (λ block. n)) (λ f. f) r ≡ Err f → r ≡ Err f
-fault_follows n f (Ok (Some block)) is = absurd (cc is)
-fault_follows n f (Ok None) is = absurd (cc is)
-fault_follows n f (Err g) is = ap Err (cc is)
-
--- a session after a block, or after none
-abbrev after_by : State → Bool → State
-after_by s came = cond came (record { source = s.source; opened = s.opened; taken = s.taken + 1; edits = s.edits }) s
-
--- a session that goes no further stays, however often it is asked
-asked_stays : (n : ℕ) (s : State) → after_next s ≡ s → asked n s ≡ s
-unfolding asked
-asked_stays zero s same = refl
-asked_stays (suc n) s same = ap (asked n) same ∙ asked_stays n s same
+use Rattle.awd_session.specs.Asked.{asked}
+use Rattle.awd_session.proofs.Asked.{Going, one_on, none_stays, none_last, fault_last}
+use Rattle.awd_listing.specs.Listing.{newline, opened_line, block_line, block_lines, end_line, fault_line, last_line, lines_of, document_text, listing_of}
 
 -- the last one of some, by how many stand before it
 last_one : {A : Type 0} (xs : List A) (x : A) → slice_get (xs ++ x ∷ []) (length xs) ≡ Some x
@@ -68,31 +32,14 @@ lines_more first (x ∷ xs) r =
     ap (λ l. block_line first x ++ l) (lines_more (first + 1) xs r ∙ ap (λ n. block_lines (first + 1) xs ++ block_line n r) (omega arith))
     ∙ sym (append_assoc (block_line first x) (block_lines (first + 1) xs) (block_line (first + suc (length xs)) r))
 
--- a session that took a block at each of n answers since it had taken none
-pub record Going (start : State) (n : ℕ) (s : State) : Type 0 where
-  pub taken : s.taken ≡ n
-  pub few : n ≤ 512
-  pub ahead : asked (512 - n) s ≡ asked 512 start
-
 -- the line of a block that is taken, and how the session goes on
 pub taken_next : (start s t : State) (n number : ℕ) → Going start n s → Ok (Some number) ≡ next_answer s → t ≡ after_next s → Kept s t
     → length (records_of s) ≡ s.taken → length (records_of t) ≡ t.taken
     → Going start (n + 1) t × ((r : Record) × (record_answer t number ≡ Some r) × (block_lines 0 (records_of t) ≡ block_lines 0 (records_of s) ++ block_line number r))
-unfolding asked
 taken_next start s t n number going is after kept many_before many =
-    let (block, follows, same) = block_follows s.taken number (following s) is in
-    let few = (comes_next s block follows).1 in
-    let to = after ∙ ap (after_by s) (ap is_block (sym follows)) in
-    let count : t.taken ≡ s.taken + 1 = ap (λ (u : State). u.taken) to in
-    let turn : 512 - n ≡ suc (512 - (n + 1)) = omega (arith, few, going.taken) in
-    let (r, at_end, answer) = one_more (records_of s) kept.0 (records_of t) number kept.1 (many_before ∙ sym same) (many ∙ count ∙ ap (λ k. k + 1) (sym same)) in (
-      record {
-        taken = count ∙ ap (λ k. k + 1) going.taken;
-        few = omega (arith, few, going.taken);
-        ahead = ap (asked (512 - (n + 1))) after ∙ ap (λ k. asked k s) (sym turn) ∙ going.ahead;
-      },
-      (r, answer, ap (block_lines 0) at_end ∙ lines_more 0 (records_of s) r ∙ ap (λ k. block_lines 0 (records_of s) ++ block_line k r) (omega (arith, many_before, same))),
-    )
+    let (on, same, count) = one_on start s t n number going is after in
+    let (r, at_end, answer) = one_more (records_of s) kept.0 (records_of t) number kept.1 (many_before ∙ sym same) (many ∙ count ∙ ap (λ k. k + 1) (sym same)) in
+    (on, (r, answer, ap (block_lines 0) at_end ∙ lines_more 0 (records_of s) r ∙ ap (λ k. block_lines 0 (records_of s) ++ block_line k r) (omega (arith, many_before, same))))
 
 -- the line goes from those ahead to those that are written
 pub line_written : (before text line written : List ℕ) (now then : List ℕ) → text ≡ before ++ now → written ≡ text ++ line → then ≡ now ++ line → written ≡ before ++ then
@@ -101,21 +48,19 @@ line_written before text line written now then so_far added more =
 
 module _ (start s : State) (n : ℕ) (going : Going start n s) (before text : List ℕ) (so_far : text ≡ before ++ block_lines 0 (records_of s)) where
   -- a session that goes no further has all its lines with the last
-  whole : is_block (following s) ≡ false → (line : List ℕ) → line ≡ last_line s.taken (next_answer s) → text ++ line ≡ before ++ lines_of (asked 512 start)
-  whole none line last =
-      let ended = sym going.ahead ∙ asked_stays (512 - n) s (ap (after_by s) none) in
+  whole : s ≡ asked 512 start → (line : List ℕ) → line ≡ last_line s.taken (next_answer s) → text ++ line ≡ before ++ lines_of (asked 512 start)
+  whole last_state line last =
       ap (λ l. l ++ line) so_far ∙ append_assoc before (block_lines 0 (records_of s)) line ∙ ap (λ l. before ++ (block_lines 0 (records_of s) ++ l)) last
-      ∙ ap (λ u. before ++ lines_of u) (sym ended)
+      ∙ ap (λ u. before ++ lines_of u) last_state
 
   -- by the count that it then tells
   pub all_taken : (t : State) (count : ℕ) → Ok None ≡ next_answer s → t ≡ after_next s → count ≡ t.taken → text ++ end_line count ≡ before ++ lines_of (asked 512 start)
   all_taken t count is after counted =
-      let none = ap is_block (none_follows s.taken (following s) (sym is)) in
-      let same = counted ∙ ap (λ (u : State). u.taken) (after ∙ ap (after_by s) none) in
-      whole none (end_line count) (ap end_line same ∙ ap (last_line s.taken) is)
+      let same = counted ∙ ap (λ (u : State). u.taken) (after ∙ none_stays s is) in
+      whole (none_last start s n going is) (end_line count) (ap end_line same ∙ ap (last_line s.taken) is)
 
   pub refused : (f : Report) → Err f ≡ next_answer s → text ++ fault_line f ≡ before ++ lines_of (asked 512 start)
-  refused f is = whole (ap is_block (fault_follows s.taken f (following s) (sym is))) (fault_line f) (ap (last_line s.taken) is)
+  refused f is = whole (fault_last start s n going f is) (fault_line f) (ap (last_line s.taken) is)
 
 -- the limit as a line spells it
 pub limit_spelled : decimal 65536 ≡ codes "65536"

@@ -1,9 +1,10 @@
 -- The text that awdlist writes for an input. Assumes nothing.
-use Rattle.std.specs.Prelude.{ℕ, zero, suc, ◌+◌, cond, List, [], ◌∷◌, ◌++◌, length, Some, None, Option, Ok, Err, codes, decimal, Result, nat_lt}
+use Rattle.std.specs.Prelude.{ℕ, ◌+◌, cond, List, [], ◌∷◌, ◌++◌, length, Some, None, Option, Ok, Err, codes, decimal, Result, nat_lt}
 use Rattle.awd_fault.specs.Faults.{Report}
 use Rattle.awd_header.specs.declared.Header.{Header}
 use Rattle.awd_roster.specs.declared.record.Record.{Record}
-use Rattle.awd_session.specs.State.{State, fresh, open_answer, after_open, records_of, next_answer, after_next}
+use Rattle.awd_session.specs.State.{State, fresh, open_answer, after_open, records_of, next_answer}
+use Rattle.awd_session.specs.Asked.{asked}
 
 -- every line ends in a line feed
 abbrev pub newline : List ℕ
@@ -45,11 +46,6 @@ block_lines first (r ∷ rs) = block_line first r ++ block_lines (first + 1) rs
 abbrev pub last_line : ℕ → Result (Option ℕ) Report → List ℕ
 last_line count (Ok o) = end_line count
 last_line count (Err f) = fault_line f
-
--- a session that was asked for so many blocks
-unfoldable pub asked : ℕ → State → State
-asked zero s = s
-asked (suc n) s = asked n (after_next s)
 
 -- the lines of the blocks that a session has taken, and the last line
 abbrev pub lines_of : State → List ℕ

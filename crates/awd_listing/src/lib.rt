@@ -4,7 +4,8 @@
 
 ghost use Rattle.std.specs.Prelude.{◌≡◌, ◌++◌, IfOk, Some, string_bytes};
 ghost use Rattle.awd_fault.specs.Faults.{report};
-ghost use Rattle.awd_listing.specs.Listing.{opened_line, parent_text, block_line, end_line, fault_line, asked, lines_of, listing_of};
+ghost use Rattle.awd_listing.specs.Listing.{opened_line, parent_text, block_line, end_line, fault_line, lines_of, listing_of};
+ghost use Rattle.awd_session.specs.Asked.{asked};
 ghost use Rattle.awd_session.specs.View.{view};
 
 use awd_fault::Fault;

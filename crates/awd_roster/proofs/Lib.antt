@@ -1,2 +1,3 @@
 pub mod Climbs
+pub mod FirstBlocks
 pub mod Kin

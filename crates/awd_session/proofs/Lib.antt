@@ -5,3 +5,4 @@ pub mod Changes
 pub mod Made
 pub mod Edited
 pub mod Promised
+pub mod Asked

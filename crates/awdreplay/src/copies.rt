@@ -1,6 +1,8 @@
 // Copies of a document that lie otherwise in memory.
 ghost use Rattle.std.specs.Prelude.{◌≡◌, length, IfOk};
 ghost use Rattle.awd_source.specs.Bytes.{part};
+ghost use Rattle.awd_source.specs.Pages.{paged};
+ghost use Rattle.awdreplay.specs.Copies.{page_count, backwards};
 
 use anyhow::bail;
 use awd_fault::Fault;
@@ -15,6 +17,8 @@ const MAX_PAGED: usize = 33_553_920;
 // What stands where no byte of the document does.
 const FILLER: u8 = 0xa5;
 
+const FILL: [u8; PAGE] = [FILLER; PAGE];
+
 const IN_FRONT: u64 = 7;
 
 const BEHIND: usize = 5;
@@ -28,20 +32,16 @@ pub struct Shuffled {
 }
 
 impl Shuffled {
-    // That these pages in this order are the document is not proved here; the comparison of the replicas tries it.
+    // The listed pages, cut to their length, are the document.
     pub fn new(heap: Global, document: &[u8]) -> anyhow::Result<Shuffled>
-        ensures { IfOk result (λ s. s.size ≡ length document.now) }
+        ensures { IfOk result (λ s. paged s.stored.items s.list.items s.size ≡ document.now) }
     {
         let Ok(count) = u16::try_from(document.len().div_ceil(PAGE)) else {
             bail!("document over {MAX_PAGED}");
         };
-        let mut list = Vec::new(heap);
-        for page in (0..count).rev() {
-            list.push(page)?;
-        }
         Ok(Shuffled {
             stored: shuffle(heap, document)?,
-            list,
+            list: backwards(heap, count)?,
             size: document.len(),
         })
     }
@@ -60,13 +60,28 @@ impl Shuffled {
     }
 }
 
+// So many numbers from 0, the last first.
+fn backwards(heap: Global, count: u16) -> Result<Vec<u16>, AllocError>
+    ensures { IfOk result (λ v. v.items ≡ backwards count) }
+{
+    let mut list = Vec::new(heap);
+    for page in (0..count).rev() {
+        list.push(page)?;
+    }
+    Ok(list)
+}
+
 // The pages of a document in the reverse order, each filled up.
-fn shuffle(heap: Global, document: &[u8]) -> Result<Vec<u8>, AllocError> {
+fn shuffle(heap: Global, document: &[u8]) -> Result<Vec<u8>, AllocError>
+    ensures { IfOk result (λ v. let size = length document.now in paged v.items (backwards (page_count size)) size ≡ document.now) }
+{
     let mut stored = Vec::new(heap);
-    for page in document.chunks(PAGE).rev() {
-        let end = stored.len().saturating_add(PAGE);
+    let mut rest = document;
+    while !rest.is_empty() {
+        let (before, page) = rest.split_at((rest.len() - 1) / PAGE * PAGE);
         stored.extend_from_slice(page)?;
-        stored.resize(end, FILLER)?;
+        stored.extend_from_slice(&FILL[page.len()..])?;
+        rest = before;
     }
     Ok(stored)
 }

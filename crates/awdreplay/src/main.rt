@@ -3,6 +3,9 @@
 // call is told by its number. The last line says whether all three answered the same. What a call does is proved in the libraries.
 #![tactic(auto)]
 
+ghost use Rattle.std.specs.Prelude.{◌≡◌, IfOk, None};
+ghost use Rattle.awdreplay.specs.Lines.{call_in, line_of, AllAlike};
+
 mod copies;
 mod replicas;
 
@@ -11,7 +14,7 @@ use awd_calls::Call;
 use copies::{Framed, Shuffled};
 use replicas::{Answered, Replicas};
 use std::alloc::Global;
-use std::io::{Print, Read};
+use std::io::Read;
 use std::{env, fs};
 
 // What a line is.
@@ -21,23 +24,39 @@ enum Line {
     Call(Call),
 }
 
-fn read_line(line: &[u8]) -> Line {
+fn read_line(line: &[u8]) -> Line
+    ensures { result ≡ line_of line.now }
+{
     if matches!(line, [] | [b'#', ..]) {
         return Line::Passed;
     }
-    match str::from_utf8(line).ok().and_then(|text| text.parse().ok()) {
+    match call_in(line) {
         Some(call) => Line::Call(call),
         None => Line::NoCall,
     }
 }
 
-// Makes the calls of an input, and prints what comes of each. The number of the first line at which the replicas differ, if they do.
+// The call that some bytes are, which have to be text for that.
+#[tactic(auto, using(crate::proofs::Texts::text_told, crate::proofs::Texts::none_told))]
+fn call_in(bytes: &[u8]) -> Option<Call>
+    ensures { result ≡ call_in bytes.now }
+{
+    match str::from_utf8(bytes) {
+        Ok(text) => text.parse().ok(),
+        Err(_) => None,
+    }
+}
+
+// Makes the calls of an input, and prints what comes of each. The number of the first line at which the replicas differ, if they do; such as are
+// alike never do. (The runtime by its type: over a type parameter, what the loop keeps could not be stated.)
 fn replay(
-    rt: &impl Print,
+    rt: &HostRuntime,
     heap: Global,
     replicas: &mut Replicas<'_>,
     input: &[u8],
-) -> Result<Option<usize>> {
+) -> Result<Option<usize>>
+    ensures { IfOk result (λ differs. AllAlike replicas.old → differs ≡ None) }
+{
     let mut differs = None;
     for (before, line) in input.split(|&b| b == b'\n').enumerate() {
         let number = before + 1;

@@ -3,7 +3,7 @@ use Rattle.std.specs.Float.Ieee.{of_fields, of_bits, to_bits, is_nan}
 use Rattle.std.specs.Fmt.{digits}
 use Rattle.awd_bodies.specs.Fields.{numbers}
 use Rattle.awd_blocks.specs.Blocks.{kind_body, body_of}
-use Rattle.awd_listing.specs.Listing.{asked}
+use Rattle.awd_session.specs.Asked.{asked}
 use Rattle.awd_examples.proofs.worked_examples.Goals as goal
 
 pub returns : goal.returns

@@ -4,7 +4,8 @@ use Rattle.awd_fault.specs.Faults.{report}
 use Rattle.awd_session.specs.State.{records_of}
 use Rattle.awd_session.specs.View.{view}
 use Rattle.awd_listing.specs.Listing.{block_line, block_lines}
-use Rattle.awd_listing.proofs.Lines.{told_of_all, taken_next, line_written, all_taken, refused}
+use Rattle.awd_session.proofs.Asked.{told_of_all}
+use Rattle.awd_listing.proofs.Lines.{taken_next, line_written, all_taken, refused}
 use Rattle.awd_listing.proofs.add_lines.Goals as goal
 use Rattle.awd_listing.proofs.add_lines.Goals.{in-Some+in_ok-add_block_line-in-Ok-Some, in_default}
 

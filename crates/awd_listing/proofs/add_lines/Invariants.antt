@@ -2,7 +2,7 @@ use Rattle.std.proofs.Common.{◌≡◌, ◌++◌, string_bytes}
 use Rattle.awd_session.specs.State.{records_of}
 use Rattle.awd_session.specs.View.{view}
 use Rattle.awd_listing.specs.Listing.{block_lines}
-use Rattle.awd_listing.proofs.Lines.{Going}
+use Rattle.awd_session.proofs.Asked.{Going}
 use Rattle.awd_listing.proofs.add_lines.Given as goal
 
 -- a block is taken at each turn, and the lines of those that are taken are written

@@ -1,0 +1,9 @@
+pub mod Writing
+pub mod Records
+pub mod Calls
+pub mod Runs
+pub mod Layers
+pub mod Listings
+pub mod Attributes
+pub mod Causes
+pub mod Laws

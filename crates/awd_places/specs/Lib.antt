@@ -1,0 +1,4 @@
+pub mod Chains
+pub mod Covers
+pub mod Laid
+pub mod Numbers
