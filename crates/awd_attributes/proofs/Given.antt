@@ -1,14 +1,15 @@
 -- What is known of an attribute that a reader gave.
-use Rattle.std.proofs.Common.{◌≡◌, ℕ, ◌+◌, ◌<◌, ◌≤◌, Bool, true, false, cond, leb, List, length, drop, Some, None, Ok, Err, Result, sym, refl, ap, ◌∙◌, subst, arith, length-drop}
+use Rattle.std.proofs.Common.{◌≡◌, ℕ, ◌+◌, ◌<◌, ◌≤◌, Bool, true, false, cond, leb, List, length, Some, None, Ok, Err, Result, sym, refl, ap, ◌∙◌, subst}
 use Rattle.std.specs.Borrow.{Bor}
 use Rattle.std.proofs.lemmas.Bool.{leb-false}
-use Rattle.std.proofs.lemmas.List.{length-take-le}
 use Rattle.awd_fault.specs.declared.Cause.TheVariants.{ValueNotAllowed}
 use Rattle.awd_source.specs.Bytes.{le, part}
 use Rattle.awd_block_fault.specs.declared.FieldFault.{FieldFault}
 use Rattle.awd_block_fault.specs.declared.BlockFault.TheVariants.{Field}
-use Rattle.awd_block_fault.specs.Faults.{on, turned, field_of, short, fault}
-use Rattle.awd_field.specs.Fields.{number_at, bytes_at}
+use Rattle.awd_block_fault.specs.Faults.{turned, field_of, fault}
+use Rattle.awd_block_fault.proofs.Passed.{on-ok, unturned, allowed-ok}
+use Rattle.awd_source.specs.Fields.{number_at, bytes_at}
+use Rattle.awd_source.proofs.Parts.{length_part, bytes-read, number-read}
 use Rattle.awd_format.specs.Shapes.{number, bytes, also, read_of, entry_of, text}
 use Rattle.awd_value.specs.Types.{known, suits}
 use Rattle.awd_attributes.specs.declared.attribute.Attribute.{Attribute}
@@ -18,54 +19,33 @@ use Rattle.awd_attributes.specs.Attributes.{user, typed}
 use Rattle.awd_attributes.specs.Fields.{key_at, key_size, type_at, value_at, value_size}
 use Rattle.awd_attributes.specs.Reader.{Answer, ended, refusal, attribute, judged, answer_at, Tells}
 
--- a step that was passed
-passed : {A B E F : Type 0} (f : E → F) (r : Result A E) (next : A → Result B F) (y : B) → on f r next ≡ Ok y → (x : A) × (r ≡ Ok x) × (next x ≡ Ok y)
-passed f (Ok x) next y is = (x, refl, is)
-passed f (Err e) next y is = absurd (cc is)
-
--- a result that is kept as it is, but for its fault
-kept : {A E F : Type 0} (f : E → F) (r : Result A E) (y : A) → turned f r ≡ Ok y → r ≡ Ok y
-kept f (Ok x) y is = ap Ok (cc is)
-kept f (Err e) y is = absurd (cc is)
-
--- a test that was passed
-allowed : {B F : Type 0} (b : Bool) (r : Result B F) (f : F) (y : B) → cond b r (Err f) ≡ Ok y → (b ≡ true) × (r ≡ Ok y)
-allowed true r f y is = (refl, is)
-allowed false r f y is = absurd (cc is)
-
--- how long a part is
-length_part : (B : List ℕ) (at n : ℕ) → at + n ≤ length B → length (part B at n) ≡ n
-length_part B at n fits = length-take-le n (drop at B) (omega (arith, length-drop at B))
-
 -- the size of a value that was read suits its type
 module _ (B : List ℕ) (at : ℕ) where
-  -- a number that was read is the one that the bytes spell
-  number_read : (p w v : ℕ) → number_at B p (length B) w ≡ Ok v → v ≡ le (part B p w)
-  number_read p w v is = cc ((allowed (leb (p + w) (length B)) (Ok (le (part B p w))) (short p) v is).1)
-
   -- the type stands where the key ends
   key_read : (p : ℕ) → read_of text B (at + 1) (length B) ≡ Ok p → p ≡ type_at B at
   key_read p is =
-      let (n, said, rest) = passed Field (number_at B (at + 1) (length B) 2) (λ n. turned Field (bytes_at (at + 1 + 2) (length B) n)) p is in
-      let (fits, ends) = allowed (leb (at + 1 + 2 + n) (length B)) (Ok (at + 1 + 2 + n)) (short (at + 1 + 2)) p (kept Field (bytes_at (at + 1 + 2) (length B) n) p rest) in
-      let behind : at + 1 + 2 + n ≡ p = cc ends in
-      sym behind ∙ ap (λ k. at + 1 + 2 + k) (number_read (at + 1) 2 n said)
+      let (n, said, rest) = on-ok Field (number_at B (at + 1) (length B) 2) (λ n. turned Field (bytes_at (at + 1 + 2) (length B) n)) p is in
+      let (_, ends) = bytes-read (at + 1 + 2) (length B) n p (unturned Field (bytes_at (at + 1 + 2) (length B) n) p rest) in
+      let (_, spelled) = number-read B (at + 1) (length B) 2 n said in
+      ends ∙ ap (λ k. at + 1 + 2 + k) spelled
 
   value_read : (p e : ℕ) → read_of typed B p (length B) ≡ Ok e → suits (le (part B p 1)) (le (part B (p + 1) 4)) ≡ true
   value_read p e is =
       let sized = λ (t : ℕ). read_of (number 4 (suits t) ValueNotAllowed (λ n. bytes n)) B (p + 1) (length B) in
-      let (t, told, rest) = passed Field (number_at B p (length B) 1) (λ t. cond (known t) (sized t) (Err (Field (fault ValueNotAllowed p)))) e is in
-      let (_, rest2) = allowed (known t) (sized t) (Field (fault ValueNotAllowed p)) e rest in
+      let (t, told, rest) = on-ok Field (number_at B p (length B) 1) (λ t. cond (known t) (sized t) (Err (Field (fault ValueNotAllowed p)))) e is in
+      let (_, rest2) = allowed-ok (known t) (sized t) (Field (fault ValueNotAllowed p)) e rest in
       let behind = λ (n : ℕ). read_of (bytes n) B (p + 1 + 4) (length B) in
-      let (n, counted, rest3) = passed Field (number_at B (p + 1) (length B) 4) (λ n. cond (suits t n) (behind n) (Err (Field (fault ValueNotAllowed (p + 1))))) e rest2 in
-      let (right, _) = allowed (suits t n) (behind n) (Field (fault ValueNotAllowed (p + 1))) e rest3 in
-      ap (λ k. suits k (le (part B (p + 1) 4))) (sym (number_read p 1 t told)) ∙ ap (suits t) (sym (number_read (p + 1) 4 n counted)) ∙ right
+      let (n, counted, rest3) = on-ok Field (number_at B (p + 1) (length B) 4) (λ n. cond (suits t n) (behind n) (Err (Field (fault ValueNotAllowed (p + 1))))) e rest2 in
+      let (right, _) = allowed-ok (suits t n) (behind n) (Field (fault ValueNotAllowed (p + 1))) e rest3 in
+      let (_, type) = number-read B p (length B) 1 t told in
+      let (_, size) = number-read B (p + 1) (length B) 4 n counted in
+      ap (λ k. suits k (le (part B (p + 1) 4))) (sym type) ∙ ap (suits t) (sym size) ∙ right
 
   attribute_read : (i e : ℕ) → entry_of (user i) B at (length B) ≡ Ok e → suits (le (part B (type_at B at) 1)) (value_size B at) ≡ true
   attribute_read i e is =
-      let whole = kept field_of (read_of (user i) B at (length B)) e is in
-      let (_, _, rest) = passed Field (number_at B at (length B) 1) (λ v. read_of (also text typed) B (at + 1) (length B)) e whole in
-      let (p, key, value) = passed (λ x. x) (read_of text B (at + 1) (length B)) (λ q. read_of typed B q (length B)) e rest in
+      let whole = unturned field_of (read_of (user i) B at (length B)) e is in
+      let (_, _, rest) = on-ok Field (number_at B at (length B) 1) (λ v. read_of (also text typed) B (at + 1) (length B)) e whole in
+      let (p, key, value) = on-ok (λ x. x) (read_of text B (at + 1) (length B)) (λ q. read_of typed B q (length B)) e rest in
       ap (λ q. suits (le (part B q 1)) (le (part B (q + 1) 4))) (sym (key_read p key)) ∙ value_read p e value
 
   answer_is : (i e : ℕ) (b : Bool) (r : Result ℕ FieldFault) → cond b ended (judged i r) ≡ attribute e → (b ≡ false) × (r ≡ Ok e)

@@ -1,7 +1,7 @@
 // The two kinds of attribute as entries of runs, and the lists of them.
 ghost use Rattle.std.specs.Prelude.{◌≡◌, ◌+◌, ◌≤◌, IfOk};
 ghost use Rattle.std.specs.Result.{result_map_both};
-ghost use Rattle.awd_field.specs.Holders.{held, Ends};
+ghost use Rattle.awd_source.specs.Holders.{held, Ends};
 ghost use Rattle.awd_source.specs.Bytes.{le, part};
 ghost use Rattle.awd_format.specs.Shapes.{SetOf, entry_of};
 ghost use Rattle.awd_format.specs.Readings.{read_in, entry_in};
@@ -13,9 +13,8 @@ ghost use Rattle.awd_attributes.specs.Filled.{numeric-filled, user-filled};
 
 use awd_block_fault::{BlockFault, FieldFault};
 use awd_fault::Cause;
-use awd_field::{FOUR, Holder, ONE, TWO};
 use awd_format::{EntryKind, list_at, text_at};
-use awd_source::Source;
+use awd_source::{FOUR, Holder, ONE, Source, TWO};
 use awd_value::ValueType;
 
 // A number for a key, and a value of which only the size is known here.

@@ -12,8 +12,7 @@ use crate::attribute::{Attribute, value_of};
 use crate::kinds::{UserFields, user_fields};
 use awd_block_fault::{BlockFault, FieldFault};
 use awd_fault::Fault;
-use awd_field::Holder;
-use awd_source::{Run, Source};
+use awd_source::{Holder, Run, Source};
 
 #[derive(Drop)]
 pub struct AttributeReader<'a> {

@@ -1,11 +1,10 @@
 -- One block behind others: how long it is, and what was found where it was read.
-use Rattle.std.proofs.Common.{◌≡◌, ℕ, ◌+◌, ◌≤◌, leb, List, length, Ok, Err, Result, sym, refl, ap, ◌∙◌, subst, arith, length-append}
-use Rattle.std.proofs.lemmas.Bool.{cond_both, leb-true}
-use Rattle.awd_source.specs.Bytes.{le, part}
+use Rattle.std.proofs.Common.{◌≡◌, ℕ, ◌+◌, ◌≤◌, List, length, Ok, Result, sym, ap, ◌∙◌, subst, arith, length-append}
 use Rattle.awd_block_fault.specs.declared.BlockFault.{BlockFault}
 use Rattle.awd_block_fault.specs.declared.BlockFault.TheVariants.{Field}
-use Rattle.awd_block_fault.specs.Faults.{short, on}
-use Rattle.awd_field.specs.Fields.{number_at}
+use Rattle.awd_block_fault.proofs.Passed.{on-ok}
+use Rattle.awd_source.specs.Fields.{number_at}
+use Rattle.awd_source.proofs.Parts.{number-read}
 use Rattle.awd_format.specs.Sets.{Stands, Reads}
 use Rattle.awd_format.specs.Shapes.{read_of}
 use Rattle.awd_format.proofs.Standing.{stands-first}
@@ -23,18 +22,6 @@ block-length flags before B at end m (head, body, is, p, (len, q)) s =
     let first = stands-first B at end head body (subst (Stands B at end) is s) in
     omega (arith, ap length is, length-append head body, l, len, size_same B at end head first l)
 
--- what goes on to a value had one to go on from
-pub on-ok : {A C F G : Type 0} (turn : F → G) (r : Result A F) (next : A → Result C G) (w : C) → on turn r next ≡ Ok w → (a : A) × (r ≡ Ok a) × (next a ≡ Ok w)
-on-ok turn (Ok a) next w is = (a, refl, is)
-on-ok turn (Err x) next w is = absurd cc
-
--- a number that was read fits
-pub number_fits : (B : List ℕ) (at end width v : ℕ) → number_at B at end width ≡ Ok v → at + width ≤ end
-number_fits B at end width v =
-    cond_both (leb (at + width) end) (Ok (le (part B at width))) (Err (short at)) (λ r. r ≡ Ok v → at + width ≤ end)
-    (λ yes _. leb-true (at + width) end yes)
-    (λ no is. absurd cc)
-
 module _ (B : List ℕ) where
   -- how a block is read after some others
   abbrev pub next_at : List Record → ℕ → Result ℕ BlockFault
@@ -45,7 +32,7 @@ module _ (B : List ℕ) where
   begins-inside before at e is =
       let (body, head, _) = on-ok in_header (read_of (block_header before) B at (length B)) _ e is in
       let (id, fits, _) = on-ok Field (number_at B at (length B) 4) _ body head in
-      omega (arith, number_fits B at (length B) 4 id fits)
+      omega (arith, number-read B at (length B) 4 id fits)
 
   -- what is read is a lawful block that stands there
   pub read-one : (before : List Record) (at e : ℕ) → next_at before at ≡ Ok e

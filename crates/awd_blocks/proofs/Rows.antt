@@ -12,7 +12,8 @@ use Rattle.awd_blocks.specs.Blocks.{LawfulBlock, block_at, BlockFaultOf}
 use Rattle.awd_blocks.specs.Records.{record_at}
 use Rattle.awd_blocks.specs.Lists.{and_at, told_from, Follow, Holds, HoldsOne, Walk, walk_from, walk, read_from, read_blocks}
 use Rattle.awd_blocks.proofs.Whole.{block_free, block-reads, block-first}
-use Rattle.awd_blocks.proofs.Next.{block-length, on-ok, next_at, read-one, read-end}
+use Rattle.awd_block_fault.proofs.Passed.{on-ok}
+use Rattle.awd_blocks.proofs.Next.{block-length, next_at, read-one, read-end}
 
 module _ (B : List ℕ) where
   -- the first block of those read, and the others

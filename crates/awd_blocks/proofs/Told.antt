@@ -1,12 +1,14 @@
 -- What a block tells of its parent and its name is where its body's shape has them.
-use Rattle.std.proofs.Common.{◌≡◌, ℕ, zero, suc, ◌+◌, ◌*◌, Bool, true, false, eqb, leb, cond, List, length, Some, Ok, Err, Result, sym, refl, ap, ◌∙◌, arith}
+use Rattle.std.proofs.Common.{◌≡◌, ℕ, zero, suc, ◌+◌, ◌*◌, true, false, eqb, List, length, Some, Ok, Err, Result, sym, refl, ap, ◌∙◌, arith}
 use Rattle.std.proofs.lemmas.Bool.{cond_both, eqb-true}
 use Rattle.awd_source.specs.Bytes.{le, part}
 use Rattle.awd_fault.specs.declared.Cause.TheVariants.{BytesLeftOver}
 use Rattle.awd_block_fault.specs.declared.BlockFault.{BlockFault}
 use Rattle.awd_block_fault.specs.declared.BlockFault.TheVariants.{Header, Field}
-use Rattle.awd_block_fault.specs.Faults.{short, fault, on, turned}
-use Rattle.awd_field.specs.Fields.{bytes_at, number_at}
+use Rattle.awd_block_fault.specs.Faults.{fault, on}
+use Rattle.awd_block_fault.proofs.Passed.{on-ok, unturned, allowed-ok}
+use Rattle.awd_source.specs.Fields.{bytes_at, number_at}
+use Rattle.awd_source.proofs.Parts.{bytes-read, number-read}
 use Rattle.awd_format.specs.Shapes.{Shape, read_of, text, bytes}
 use Rattle.awd_header.specs.Widths.{Sizes, widths_of}
 use Rattle.awd_roster.specs.declared.record.Record.{Record}
@@ -23,27 +25,16 @@ use Rattle.awd_blocks.specs.Blocks.{kind_body, body_of, body_shape, in_header, f
 use Rattle.awd_blocks.specs.Records.{has_head, begins_named, matrix_width, text_bytes, record_at}
 use Rattle.awd_blocks.specs.Told.{HeadTold, NameTold}
 use Rattle.awd_blocks.proofs.Names.{at-number}
-use Rattle.awd_blocks.proofs.Next.{on-ok}
-
--- what goes on to a value was not refused
-not-refused : (b : Bool) (r : Result ℕ BlockFault) (x : BlockFault) (q : ℕ) → cond b r (Err x) ≡ Ok q → r ≡ Ok q
-not-refused true r x q is = is
-not-refused false r x q is = absurd (cc is)
 
 module _ (B : List ℕ) (end : ℕ) where
   -- where what was read ends
   bytes-end : (at n q : ℕ) → read_of (bytes n) B at end ≡ Ok q → q ≡ at + n
-  bytes-end at n q =
-      cond_both (leb (at + n) end) (Ok (at + n)) (Err (short at)) (λ r. turned Field r ≡ Ok q → q ≡ at + n) (λ fits is. sym (cc is)) (λ none is. absurd (cc is))
-
-  number-read : (at width v : ℕ) → number_at B at end width ≡ Ok v → v ≡ le (part B at width)
-  number-read at width v =
-      cond_both (leb (at + width) end) (Ok (le (part B at width))) (Err (short at)) (λ r. r ≡ Ok v → v ≡ le (part B at width)) (λ fits is. sym (cc is)) (λ none is. absurd (cc is))
+  bytes-end at n q is = (bytes-read at end n q (unturned Field (bytes_at at end n) q is)).1
 
   pub address_end : (target : Target) (before : List Record) (at q : ℕ) → read_of (address_to target before) B at end ≡ Ok q → q ≡ at + 4
   address_end target before at q is =
       let (v, is-v, rest) = on-ok Field (number_at B at end 4) _ q is in
-      omega (arith, bytes-end (at + 4) 0 q (not-refused (lawful_address target before v) _ _ q rest))
+      omega (arith, bytes-end (at + 4) 0 q (allowed-ok (lawful_address target before v) _ _ q rest).1)
 
   pub numbers_end : (n width at q : ℕ) → read_of (numbers n width) B at end ≡ Ok q → q ≡ at + n * width
   unfolding numbers
@@ -55,7 +46,7 @@ module _ (B : List ℕ) (end : ℕ) where
   text-end : (at q : ℕ) → read_of text B at end ≡ Ok q → q ≡ at + 2 + le (part B at 2)
   text-end at q is =
       let (v, is-v, rest) = on-ok Field (number_at B at end 2) _ q is in
-      omega (arith, bytes-end (at + 2) v q rest, number-read at 2 v is-v)
+      omega (arith, bytes-end (at + 2) v q rest, number-read B at end 2 v is-v)
 
   -- what is read behind a first part was read
   first-read : (L : Shape) (next : ℕ → Result ℕ BlockFault) (at q : ℕ) → on (λ x. x) (read_of L B at end) next ≡ Ok q → (x : ℕ) × (read_of L B at end ≡ Ok x)
@@ -105,10 +96,10 @@ module _ (B : List ℕ) (end : ℕ) where
   pub header-end : (before : List Record) (at q : ℕ) → read_of (block_header before) B at end ≡ Ok q → q ≡ at + 11
   header-end before at q is =
       let (id, is-id, a) = on-ok Field (number_at B at end 4) _ q is in
-      let (namespace, is-namespace, b) = on-ok Field (number_at B (at + 4) end 1) _ q (not-refused (in_sequence before id) _ _ q a) in
+      let (namespace, is-namespace, b) = on-ok Field (number_at B (at + 4) end 1) _ q (allowed-ok (in_sequence before id) _ _ q a).1 in
       let (kind, is-kind, c) = on-ok Field (number_at B (at + 4 + 1) end 1) _ q b in
       let (flags, is-flags, d) = on-ok Field (number_at B (at + 4 + 1 + 1) end 1) _ q c in
-      let (size, is-size, e) = on-ok Field (number_at B (at + 4 + 1 + 1 + 1) end 4) _ q (not-refused (uncompressed flags) _ _ q d) in
+      let (size, is-size, e) = on-ok Field (number_at B (at + 4 + 1 + 1 + 1) end 4) _ q (allowed-ok (uncompressed flags) _ _ q d).1 in
       omega (arith, bytes-end (at + 4 + 1 + 1 + 1 + 4) 0 q e)
 
 pub filled-is : (stop e q : ℕ) → filled_to stop e ≡ Ok q → (e ≡ stop) × (e ≡ q)

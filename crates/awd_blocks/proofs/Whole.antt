@@ -6,7 +6,7 @@ use Rattle.awd_fault.specs.declared.Cause.TheVariants.{BytesLeftOver}
 use Rattle.awd_block_fault.specs.declared.BlockFault.{BlockFault}
 use Rattle.awd_block_fault.specs.declared.BlockFault.TheVariants.{Header}
 use Rattle.awd_block_fault.specs.Faults.{fault, short, on}
-use Rattle.awd_field.specs.Fields.{bytes_at}
+use Rattle.awd_source.specs.Fields.{bytes_at}
 use Rattle.awd_format.specs.Sets.{Stands, NoneBegins, Reads}
 use Rattle.awd_format.specs.Shapes.{Shape, SetOf, read_of, Filled}
 use Rattle.awd_format.specs.FirstFaults.{FaultOf}

@@ -1,6 +1,6 @@
 // One block after others.
 ghost use Rattle.std.specs.Prelude.{◌≡◌, length};
-ghost use Rattle.awd_field.specs.Holders.{held};
+ghost use Rattle.awd_source.specs.Holders.{held};
 ghost use Rattle.awd_format.specs.Shapes.{bytes};
 ghost use Rattle.awd_format.specs.Readings.{read_in};
 ghost use Rattle.awd_header.specs.Widths.{sizes};
@@ -11,10 +11,9 @@ use crate::heads::{Head, head_at};
 use awd_block_fault::{BlockFault, FieldFault};
 use awd_bodies::{Scene, geometry_at, picker_at, skeleton_at};
 use awd_fault::Cause;
-use awd_field::Holder;
 use awd_header::{Header, Widths};
 use awd_roster::{BlockKind, Earlier, Record};
-use awd_source::Source;
+use awd_source::{Holder, Source};
 
 // A block as it was read: what it tells, and the place behind it.
 #[derive(Clone, Copy)]

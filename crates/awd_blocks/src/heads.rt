@@ -1,8 +1,8 @@
 // The header of a block.
 ghost use Rattle.std.specs.Prelude.{◌≡◌, ◌+◌, ◌^◌, ◌<◌, ◌≤◌, IfOk, IfSome};
 ghost use Rattle.std.specs.Result.{result_map_both};
-ghost use Rattle.awd_field.specs.Holders.{held};
-ghost use Rattle.awd_field.specs.Fields.{bytes_at};
+ghost use Rattle.awd_source.specs.Holders.{held};
+ghost use Rattle.awd_source.specs.Fields.{bytes_at};
 ghost use Rattle.awd_format.specs.Readings.{entry_in};
 ghost use Rattle.awd_header.specs.Widths.{width_size};
 ghost use Rattle.awd_blocks.specs.Heads.{head_of, block_header};
@@ -10,10 +10,9 @@ ghost use Rattle.awd_blocks.specs.Records.{has_head, begins_named, name_in, reco
 
 use awd_block_fault::{FieldFault, HeaderFault};
 use awd_fault::Cause;
-use awd_field::{FOUR, Holder, ONE, TWO, spelled_at};
 use awd_header::Width;
 use awd_roster::{BlockKind, Earlier, Record, Span};
-use awd_source::Source;
+use awd_source::{FOUR, Holder, ONE, Source, TWO, spelled_at};
 
 // What a block header says.
 #[derive(Clone, Copy)]

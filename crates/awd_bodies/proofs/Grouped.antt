@@ -4,7 +4,7 @@ use Rattle.awd_block_fault.specs.declared.BlockFault.{BlockFault}
 use Rattle.awd_block_fault.specs.declared.BlockFault.TheVariants.{Field, Entry}
 use Rattle.awd_block_fault.specs.declared.EntryFault.{EntryFault}
 use Rattle.awd_block_fault.specs.Faults.{on, turned}
-use Rattle.awd_field.specs.Fields.{number_at}
+use Rattle.awd_source.specs.Fields.{number_at}
 use Rattle.awd_format.specs.Runs.{counted_at}
 use Rattle.awd_format.specs.Shapes.{Shape, read_of, entry_of, text}
 use Rattle.awd_attributes.specs.Attributes.{properties, user_list}

@@ -3,7 +3,7 @@ use Rattle.std.specs.Prelude.{ℕ, ◌+◌, List, Result}
 use Rattle.awd_block_fault.specs.declared.BlockFault.{BlockFault}
 use Rattle.awd_block_fault.specs.declared.BlockFault.TheVariants.{Field, Entry}
 use Rattle.awd_block_fault.specs.Faults.{on}
-use Rattle.awd_field.specs.Fields.{number_at}
+use Rattle.awd_source.specs.Fields.{number_at}
 use Rattle.awd_format.specs.Runs.{Reading, counted_at}
 use Rattle.awd_format.specs.Shapes.{Shape, counted, also, any_number, read_of, text}
 use Rattle.awd_attributes.specs.Attributes.{properties, user_list}

@@ -1,6 +1,6 @@
 // Addresses, alone and in runs.
 ghost use Rattle.std.specs.Prelude.{◌≡◌, ◌+◌};
-ghost use Rattle.awd_field.specs.Holders.{Ends};
+ghost use Rattle.awd_source.specs.Holders.{Ends};
 ghost use Rattle.awd_format.specs.Shapes.{SetOf, entry_of};
 ghost use Rattle.awd_format.specs.Readings.{read_in};
 ghost use Rattle.awd_bodies.specs.Fields.{address_to, addresses};
@@ -9,10 +9,9 @@ ghost use Rattle.awd_bodies.specs.Filled.{address-filled};
 
 use awd_block_fault::{BlockFault, FieldFault};
 use awd_fault::Cause;
-use awd_field::{FOUR, Holder, TWO};
 use awd_format::{EntryKind, counted};
 use awd_roster::{Earlier, Target};
-use awd_source::Source;
+use awd_source::{FOUR, Holder, Source, TWO};
 
 // An address that is to be lawful after the earlier blocks, as a field and as an entry of a run.
 #[derive(Drop)]

@@ -1,17 +1,16 @@
 // Bodies that are a group of entries, written once for any kind of entry.
 ghost use Rattle.std.specs.Prelude.{◌≡◌};
-ghost use Rattle.awd_field.specs.Holders.{held};
+ghost use Rattle.awd_source.specs.Holders.{held};
 ghost use Rattle.awd_format.specs.Readings.{read_in};
 ghost use Rattle.awd_header.specs.Widths.{width_size};
 ghost use Rattle.awd_bodies.specs.Groups.{geometry, group_at};
 
 use awd_attributes::{properties_at, user_list_at};
 use awd_block_fault::BlockFault;
-use awd_field::{Holder, TWO};
 use awd_format::{EntryKind, counted, text_at};
 use awd_geometry::SubGeometry;
 use awd_header::Width;
-use awd_source::Source;
+use awd_source::{Holder, Source, TWO};
 
 // The place behind a name, a count, properties, that many entries and a user list.
 pub(crate) fn group_at<S: Source, K: EntryKind>(

@@ -1,6 +1,6 @@
 // The bodies of blocks that make up a scene.
 ghost use Rattle.std.specs.Prelude.{◌≡◌, ◌+◌};
-ghost use Rattle.awd_field.specs.Holders.{Ends};
+ghost use Rattle.awd_source.specs.Holders.{Ends};
 ghost use Rattle.awd_format.specs.Readings.{read_in};
 ghost use Rattle.awd_header.specs.Widths.{width_size};
 ghost use Rattle.awd_bodies.specs.Fields.{address_to, addresses};
@@ -11,11 +11,10 @@ use crate::fields::{lists_at, matrix_at};
 use awd_attributes::user_list_at;
 use awd_block_fault::{BlockFault, FieldFault};
 use awd_fault::Cause;
-use awd_field::{Holder, ONE};
 use awd_format::text_at;
 use awd_header::Width;
 use awd_roster::{Earlier, Target};
-use awd_source::Source;
+use awd_source::{Holder, ONE, Source};
 
 // What the body of a scene's block is read by: what it must fit, the blocks before it, and the width of matrix cells.
 #[derive(Drop)]

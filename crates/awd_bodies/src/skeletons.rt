@@ -1,6 +1,6 @@
 // Skeletons and their joints.
 ghost use Rattle.std.specs.Prelude.{◌≡◌, ◌<◌};
-ghost use Rattle.awd_field.specs.Holders.{Further};
+ghost use Rattle.awd_source.specs.Holders.{Further};
 ghost use Rattle.awd_format.specs.Shapes.{SetOf, entry_of};
 ghost use Rattle.awd_format.specs.Readings.{read_in};
 ghost use Rattle.awd_header.specs.Widths.{width_size};
@@ -12,10 +12,9 @@ use crate::fields::{lists_at, matrix_at};
 use crate::groups::group_at;
 use awd_block_fault::{BlockFault, FieldFault};
 use awd_fault::Cause;
-use awd_field::{Holder, TWO};
 use awd_format::{EntryKind, text_at};
 use awd_header::Width;
-use awd_source::Source;
+use awd_source::{Holder, Source, TWO};
 
 // the parent of a joint that has none; it is told to nobody, so an Option of it would have no second use
 const NO_JOINT: u64 = 65_535;

@@ -81,11 +81,6 @@ pub taken_whole : (B : List ℕ) → Lawful B → (r : Result ℕ Fault) → Mat
 taken_whole B lawful (Ok n) whole = (lawful, whole)
 taken_whole B lawful (Err f) behind = inr (lawful, behind)
 
--- a session as it was made has no header
-pub no_header : (o : Option Header) → is_some o ≡ false → o ≡ None
-no_header None is = refl
-no_header (Some h) is = absurd (cc is)
-
 -- after an accepted opening a session is open
 pub opens : (s : State) (h : Header) → Ok h ≡ open_answer s → (after_open s).opened ≡ true
 opens s h is = rw (sym is) refl

@@ -10,9 +10,8 @@ ghost use Rattle.awd_attributes.specs.Filled.{properties-filled, user-list-fille
 
 use awd_attributes::{properties_at, user_list_at};
 use awd_block_fault::{BlockFault, FieldFault};
-use awd_field::Holder;
 use awd_format::{EntryKind, counted};
-use awd_source::Source;
+use awd_source::{Holder, Source};
 
 #[derive(Clone, Copy)]
 pub struct Sheet;

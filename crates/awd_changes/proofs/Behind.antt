@@ -5,7 +5,7 @@ use Rattle.awd_source.specs.Bytes.{le, part}
 use Rattle.awd_block_fault.specs.declared.BlockFault.{BlockFault}
 use Rattle.awd_block_fault.specs.declared.BlockFault.TheVariants.{Header}
 use Rattle.awd_block_fault.specs.Faults.{on}
-use Rattle.awd_field.specs.Fields.{bytes_at}
+use Rattle.awd_source.specs.Fields.{bytes_at}
 use Rattle.awd_format.specs.Shapes.{Shape, read_of}
 use Rattle.awd_format.proofs.Standing.{fit_both}
 use Rattle.awd_format.proofs.Locality.{shape-ahead, shape-local, on_alike}

@@ -3,7 +3,8 @@ use Rattle.std.proofs.Common.{◌≡◌, ◌⊎◌, ◌↔◌, ℕ, ◌+◌, ◌
 use Rattle.std.specs.Prelude.{slice_get}
 use Rattle.awd_source.specs.Bytes.{le, part}
 use Rattle.awd_format.specs.Sets.{Reads}
-use Rattle.awd_format.proofs.Standing.{length_part, stands-part}
+use Rattle.awd_source.proofs.Parts.{length_part}
+use Rattle.awd_format.proofs.Standing.{stands-part}
 use Rattle.awd_format.proofs.RunLaws.{reads-member}
 use Rattle.awd_header.specs.Header.{flags_of}
 use Rattle.awd_roster.specs.declared.record.Record.{Record}

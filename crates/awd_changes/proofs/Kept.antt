@@ -4,10 +4,11 @@ use Rattle.std.proofs.lemmas.Bool.{eq-eqb, le-leb}
 use Rattle.std.specs.Option.{option_map}
 use Rattle.awd_source.specs.Bytes.{le, part}
 use Rattle.awd_block_fault.specs.declared.BlockFault.TheVariants.{Header}
-use Rattle.awd_field.specs.Fields.{bytes_at}
+use Rattle.awd_block_fault.proofs.Passed.{on-ok}
+use Rattle.awd_source.specs.Fields.{bytes_at}
+use Rattle.awd_source.proofs.Parts.{bytes-read}
 use Rattle.awd_format.specs.Sets.{Stands, Reads}
 use Rattle.awd_format.specs.Shapes.{Shape, SetOf, read_of, Filled}
-use Rattle.awd_format.proofs.Standing.{fit_both}
 use Rattle.awd_format.proofs.RunLaws.{reads-member}
 use Rattle.awd_format.proofs.ShapeLaws.{shape_free, shape-reads}
 use Rattle.awd_format.proofs.Locality.{Alike, inner, part-alike}
@@ -20,8 +21,8 @@ use Rattle.awd_blocks.specs.Records.{has_head, begins_named, matrix_width, name_
 use Rattle.awd_blocks.proofs.Bodies.{header-filled}
 use Rattle.awd_blocks.proofs.Whole.{shape-filled}
 use Rattle.awd_blocks.proofs.Names.{name_inside}
-use Rattle.awd_blocks.proofs.Next.{on-ok}
 use Rattle.awd_blocks.proofs.Told.{header-end, filled-is, body_read}
+use Rattle.awd_edits.proofs.Latest.{where_true}
 use Rattle.awd_changes.proofs.Kin.{header_kin, shape_kin}
 
 -- what stands in some bytes stands in others that are the same there
@@ -37,11 +38,6 @@ shape_kept L filled B C at end m h b c is same =
     let (bs, place, p, s) = subst (Reads (SetOf L) B at end) is (shape-reads L filled B at end h b) in
     let s' = stands_kept B C at end bs b c (λ i l k. same i l (omega (arith, place))) s in
     reads-member C at end (SetOf L) (shape_free L) (read_of L C at end) (shape-reads L filled C at end h c) bs p s' ∙ ap Ok (sym place)
-
--- bytes that fit end where they say
-bytes-fit : (at end n q : ℕ) → bytes_at at end n ≡ Ok q → (q ≡ at + n) × (at + n ≤ end)
-bytes-fit at end n q =
-    fit_both at n end (at + n) (λ r. r ≡ Ok q → (q ≡ at + n) × (at + n ≤ end)) (λ fit is. (sym (cc is), fit)) (λ over is. absurd (cc is))
 
 -- a block that is read at a place: its header is, its body fits, and that is read to its end
 pub record Parts (flags : ℕ) (before : List Record) (B : List ℕ) (at : ℕ) : Type 0 where
@@ -64,7 +60,7 @@ module _ (flags : ℕ) (before : List Record) (B : List ℕ) (at : ℕ) where
       let (body, head, rest) = on-ok in_header (read_of (block_header before) B at (length B)) _ e is in
       let (stop, room, filled) = on-ok Header (bytes_at body (length B) (size_at B at)) _ e rest in
       let place = header-end B (length B) before at body head in
-      let (to, fits) = bytes-fit body (length B) (size_at B at) stop room in
+      let (fits, to) = bytes-read body (length B) (size_at B at) stop room in
       let (q, whole, ends) = on-ok (λ x. x) (read_of (body_shape flags before B at) B body stop) _ e filled in
       let (to-stop, to-e) = filled-is stop q e ends in
       let e-is : e ≡ body_at at + size_at B at = omega (arith, to, place, to-stop, to-e) in
@@ -103,11 +99,6 @@ if-some : (o : Option ℕ) (P Q : ℕ → Type 0) → IfSome o P → IfSome o (�
 if-some None P Q p f = tt
 if-some (Some q) P Q p f = f p
 
--- two values that are the same where they are chosen
-chosen : (b : Bool) (x y : Option ℕ) → (b ≡ true → x ≡ y) → cond b x None ≡ cond b y None
-chosen true x y f = f refl
-chosen false x y f = refl
-
 -- texts are where they were if their lengths are the same
 texts_same : (B C : List ℕ) (o : Option ℕ) → IfSome o (λ q. part C q 2 ≡ part B q 2) → option_map (text_bytes C) o ≡ option_map (text_bytes B) o
 texts_same B C None w = refl
@@ -136,7 +127,7 @@ module _ (flags : ℕ) (B C : List ℕ) (at : ℕ) (h : SameHead B C at) where
       → record_at flags C at ≡ record_at flags B at
   record_same parent name =
       let address = λ (D : List ℕ). Some (le (part D (body_at at) 4)) in
-      let p = chosen (headed B at) (address C) (address B) (λ has. ap (λ x. Some (le x)) (parent has)) in
+      let p = where_true (headed B at) (address C) (address B) (λ has. ap (λ x. Some (le x)) (parent has)) in
       let n = texts_same B C (name_place flags B at) name in
       rw (h.id, h.namespace, h.kind, h.size, matrix_width_kept, p, n) refl
 

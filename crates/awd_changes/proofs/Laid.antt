@@ -102,11 +102,14 @@ module _ (O : List ℕ) (n : ℕ) (w : Walk) (e : Edit) (read : read_blocks O n 
   abbrev fp : Place
   fp = on-field.place
 
-  b : BlockOf O n w e.block r
+  pub b : BlockOf O n w e.block r
   b = block_of O n w e.block r read on-field.found
 
+  abbrev pub block_laid_in : BlockOf O n w e.block r
+  block_laid_in = b
+
   -- the field, of the block as its bytes tell it
-  placed : field_place (flags_of O) (take e.block w.records) O (record_at (flags_of O) O r.place) e.field ≡ Ok fp
+  pub placed : field_place (flags_of O) (take e.block w.records) O (record_at (flags_of O) O r.place) e.field ≡ Ok fp
   placed = subst (λ x. field_place (flags_of O) (take e.block w.records) O x e.field ≡ Ok fp) b.told on-field.placed
 
   long : length O ≡ length C
@@ -118,6 +121,9 @@ module _ (O : List ℕ) (n : ℕ) (w : Walk) (e : Edit) (read : read_blocks O n 
 
   inside : (body_at r.place ≤ fp.at) × (fp.at + fp.size ≤ b.end)
   inside = let (low, high, good) = field_inside (flags_of O) (take e.block w.records) O C r.place b.end b.read e.field fp placed long same in (low, high)
+
+  pub place_in_block : (body_at r.place ≤ fp.at) × (fp.at + fp.size ≤ block_laid_in.end)
+  place_in_block = inside
 
   -- the block ends inside the bytes
   ends : b.end ≤ length O

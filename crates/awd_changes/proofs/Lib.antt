@@ -7,5 +7,8 @@ pub mod Shapes
 pub mod Places
 pub mod Blocks
 pub mod Laid
+pub mod Stay
+pub mod Apart
 pub mod Standing
+pub mod Without
 pub mod Exact

@@ -1,6 +1,6 @@
 -- Where a field is that may be edited: it is a free number in the body of its block.
-use Rattle.std.proofs.Common.{◌≡◌, ◌⊎◌, inl, inr, ℕ, zero, suc, ◌+◌, ◌*◌, ◌<◌, ◌≤◌, Bool, true, false, eqb, ltb, cond, ◌&&◌, List, Some, None, Option, Ok, Err, Result, sym, refl, ap, ◌∙◌, subst, arith}
-use Rattle.std.specs.Option.{ok_or, option_and_then}
+use Rattle.std.proofs.Common.{◌≡◌, ◌⊎◌, inl, inr, ℕ, zero, suc, ◌+◌, ◌*◌, ◌<◌, ◌≤◌, Bool, true, eqb, ltb, cond, ◌&&◌, List, Some, None, Option, Ok, sym, refl, ap, ◌∙◌, subst, arith}
+use Rattle.std.specs.Option.{option_map, ok_or, option_and_then}
 use Rattle.std.specs.Result.{result_map_both}
 use Rattle.std.proofs.lemmas.Bool.{and_parts, cond_both, ltb-true}
 use Rattle.std.proofs.Math.Nat.{mul-le-mul_right}
@@ -21,14 +21,15 @@ use Rattle.awd_blocks.specs.Heads.{namespace_at, kind_at, flags_at, size_at, bod
 use Rattle.awd_blocks.specs.Blocks.{kind_body, body_of, body_shape, block_at}
 use Rattle.awd_blocks.specs.Records.{has_head, matrix_width, record_at}
 use Rattle.awd_blocks.proofs.Names.{at-number}
-use Rattle.awd_blocks.proofs.Next.{on-ok}
-use Rattle.awd_blocks.proofs.Told.{address_end, body_read, head_told}
+use Rattle.awd_block_fault.proofs.Passed.{on-ok, on-at, unturned, allowed-ok}
+use Rattle.std.proofs.lemmas.Option.{cond_some}
+use Rattle.awd_blocks.proofs.Told.{address_end, head_told}
 use Rattle.awd_contents.specs.Contents.{is_mesh, materials_at, material_place, cell_place}
-use Rattle.awd_contents.proofs.Placed.{materials}
+use Rattle.awd_contents.proofs.Placed.{as_mesh, materials}
 use Rattle.awd_edits.specs.declared.edit.Field.{Field}
 use Rattle.awd_edits.specs.declared.edit.Field.TheVariants.{Parent, Material, Cell}
 use Rattle.awd_changes.specs.Fields.{Place, address_place, cell_of_width, field_place}
-use Rattle.awd_changes.proofs.Shapes.{FreeIn, Free, on_at, unturned, number_read}
+use Rattle.awd_changes.proofs.Shapes.{FreeIn, Free, number_read}
 
 -- a body begins with a scene head where its kind says so
 abbrev Headed : List Record → Sizes → ℕ → ℕ → Shape → Type 0
@@ -49,14 +50,6 @@ body_headed before w namespace kind size =
     cond_both (eqb namespace 0) _ _ (Headed before w namespace kind)
     (λ is. at-number (λ n. Headed before w n kind (kind_body before w kind size)) namespace 0 is (kind_headed before w kind size))
     (λ other head. absurd (cc (rw (other) at head)))
-
--- the body of a mesh instance is one
-body_mesh : (before : List Record) (w : Sizes) (namespace kind size : ℕ) → eqb namespace 0 ≡ true → eqb kind 23 ≡ true
-    → body_of before w namespace kind size ≡ mesh before w.matrix
-unfolding body_of kind_body
-body_mesh before w namespace kind size namespace-0 kind-23 =
-    at-number (λ n. body_of before w n kind size ≡ mesh before w.matrix) namespace 0 namespace-0
-    (at-number (λ k. body_of before w 0 k size ≡ mesh before w.matrix) kind 23 kind-23 refl)
 
 -- any cell of a row of numbers is free
 cells_free : (B : List ℕ) (end n k width at q : ℕ) → k < n → q ≡ at + k * width → Free (numbers n width) B at end q width (λ v. true)
@@ -84,21 +77,11 @@ module _ (target : Target) (before : List Record) (B : List ℕ) (end q : ℕ) w
       let at-m = address_end B end target before at m (unturned field_of (read_of one B at end) m first) in
       inr (m, first, addresses_free n (j + 1) m e i rest (omega arith) (omega arith))
 
--- what goes on to a value was chosen
-cond_ok : {A : Type 0} (b : Bool) (r : Result A ℕ) (x : ℕ) (a : A) → cond b r (Err x) ≡ Ok a → (b ≡ true) × (r ≡ Ok a)
-cond_ok true r x a is = (refl, is)
-cond_ok false r x a is = absurd (cc is)
-
 -- a place that there is was made of a place
 mapped_ok : (f : ℕ → Place) (o : Option ℕ) (x : ℕ) (fp : Place) → result_map_both f (λ c. c) (ok_or o x) ≡ Ok fp
     → (at : ℕ) × (o ≡ Some at) × (f at ≡ fp)
 mapped_ok f (Some at) x fp is = (at, refl, cc is)
 mapped_ok f None x fp is = absurd (cc is)
-
--- a place that there is was chosen
-cond_some : (b : Bool) (u v : ℕ) → cond b (Some u) None ≡ Some v → (b ≡ true) × (u ≡ v)
-cond_some true u v is = (refl, cc is)
-cond_some false u v is = absurd (cc is)
 
 -- where the name is of a block that has a scene head
 abbrev pub name_after : ℕ → ℕ → ℕ
@@ -114,17 +97,24 @@ ParentPlace (Cell k) body fp = body + 4 ≤ fp.at
 abbrev pub NamePlace : ℕ → Place → Type 0
 NamePlace name fp = (name + 2 ≤ fp.at) ⊎ (fp.at + fp.size ≤ name)
 
+-- and apart from the count (2) of materials
+abbrev pub CountPlace : Option ℕ → Place → Type 0
+CountPlace o fp = (q : ℕ) → o ≡ Some q → (q + 2 ≤ fp.at) ⊎ (fp.at + fp.size ≤ q)
+
+-- just where each field is: by where the body begins, how wide its cells are, and where the count of materials is
+abbrev pub Exactly : Field → ℕ → ℕ → Option ℕ → Place → Type 0
+Exactly Parent body width o fp = (fp.at ≡ body) × (fp.size ≡ 4)
+Exactly (Material i) body width o fp = (q : ℕ) × (o ≡ Some q) × (fp.at ≡ q + 2 + 4 * i) × (fp.size ≡ 4)
+Exactly (Cell k) body width o fp = (k < 12) × (fp.at ≡ body + 4 + k * width) × (fp.size ≡ width)
+
 -- what is so of a block that has such a field: it has a scene head, and the field is a free number in its body
 pub record FieldPlaced (flags : ℕ) (before : List Record) (B : List ℕ) (p e : ℕ) (f : Field) (fp : Place) : Type 0 where
   pub headed : has_head (namespace_at B p) (kind_at B p) ≡ true
   pub free : Free (body_shape flags before B p) B (body_at p) e fp.at fp.size fp.allowed
   pub parent : ParentPlace f (body_at p) fp
   pub name : NamePlace (name_after (matrix_width flags B p) (body_at p)) fp
-
--- a mesh instance has a scene head
-mesh_headed : (namespace kind : ℕ) → eqb namespace 0 ≡ true → eqb kind 23 ≡ true → has_head namespace kind ≡ true
-mesh_headed namespace kind namespace-0 kind-23 =
-    at-number (λ n. has_head n kind ≡ true) namespace 0 namespace-0 (at-number (λ k. has_head 0 k ≡ true) kind 23 kind-23 refl)
+  pub count : CountPlace (materials_at (record_at flags B p)) fp
+  pub exactly : Exactly f (body_at p) (matrix_width flags B p) (materials_at (record_at flags B p)) fp
 
 -- the count of its materials lies behind the length of its name
 behind_name : (flags : ℕ) (B : List ℕ) (p q : ℕ) → is_mesh (record_at flags B p) ≡ true → has_head (namespace_at B p) (kind_at B p) ≡ true
@@ -134,23 +124,39 @@ behind_name flags B p q mesh-is has is =
     let at-q : name + 2 + le (part B name 2) + 4 ≡ q = cc (rw (mesh-is, has) at is) in
     omega arith
 
--- any material of a mesh instance that was read is free
-material_free : (before : List Record) (width : ℕ) (B : List ℕ) (body e q i : ℕ) → read_of (mesh before width) B body e ≡ Ok e
-    → read_of (also (scene_head before width) (address_to target.Geometry before)) B body e ≡ Ok q → i < le (part B q 2)
-    → Free (mesh before width) B body e (q + 2 + 4 * i) 4 (lawful_address target.Material before)
-material_free before width B body e q i whole is low =
-    let head = scene_head before width in
-    let geometry = address_to target.Geometry before in
-    let one = address_to target.Material before in
-    let materials = addresses target.Material before in
-    let (x, is-x, is-q) = on-ok (λ y. y) (read_of head B body e) (λ m. read_of geometry B m e) q is in
-    let behind-head = sym (on_at (λ y. y) (λ m. read_of (also geometry (also materials lists)) B m e) (read_of head B body e) x is-x) ∙ whole in
-    let behind-geometry = sym (on_at (λ y. y) (λ m. read_of (also materials lists) B m e) (read_of geometry B x e) q is-q) ∙ behind-head in
-    let (y, is-y, rest) = on-ok (λ y. y) (read_of materials B q e) (λ m. read_of lists B m e) e behind-geometry in
-    let (fits, any-is, run-is) = number_read 2 any ValueNotAllowed (λ count. counted count (λ i. one)) B q e y is-y in
-    let counted-is = unturned Entry (counted_at (λ i. entry_of one) B e (le (part B q 2)) 0 (q + 2)) y run-is in
-    let free = addresses_free target.Material before B e (q + 2 + 4 * i) (le (part B q 2)) 0 (q + 2) y i counted-is low refl in
-    inr (x, is-x, inr (q, is-q, inl (inr free)))
+-- what has a count of materials is a mesh instance
+counted_mesh : (r : Record) (q : ℕ) → materials_at r ≡ Some q → is_mesh r ≡ true
+counted_mesh r q =
+    cond_both (is_mesh r) (option_map (λ s. s.place + s.length + 4) r.name) None (λ o. o ≡ Some q → is_mesh r ≡ true)
+    (λ mesh is. mesh)
+    (λ other is. absurd (cc is))
+
+-- of a mesh instance that was read, and where the count of its materials is
+module _ (before : List Record) (width : ℕ) (B : List ℕ) (body e q : ℕ) (whole : read_of (mesh before width) B body e ≡ Ok e)
+    (is : read_of (also (scene_head before width) (address_to target.Geometry before)) B body e ≡ Ok q) where
+  abbrev material : Shape
+  material = address_to target.Material before
+
+  -- what is before the count was read, the count fits, and so was the run behind it
+  materials_read : (x : ℕ) × (read_of (scene_head before width) B body e ≡ Ok x) × (read_of (address_to target.Geometry before) B x e ≡ Ok q)
+      × (q + 2 ≤ e) × ((y : ℕ) × (counted_at (λ i. entry_of material) B e (le (part B q 2)) 0 (q + 2) ≡ Ok y))
+  materials_read =
+      let head = scene_head before width in
+      let geometry = address_to target.Geometry before in
+      let run = addresses target.Material before in
+      let (x, is-x, is-q) = on-ok (λ y. y) (read_of head B body e) (λ m. read_of geometry B m e) q is in
+      let behind-head = sym (on-at (λ y. y) (λ m. read_of (also geometry (also run lists)) B m e) (read_of head B body e) x is-x) ∙ whole in
+      let behind-geometry = sym (on-at (λ y. y) (λ m. read_of (also run lists) B m e) (read_of geometry B x e) q is-q) ∙ behind-head in
+      let (y, is-y, rest) = on-ok (λ y. y) (read_of run B q e) (λ m. read_of lists B m e) e behind-geometry in
+      let (fits, any-is, run-is) = number_read 2 any ValueNotAllowed (λ count. counted count (λ i. material)) B q e y is-y in
+      (x, is-x, is-q, fits, (y, unturned Entry (counted_at (λ i. entry_of material) B e (le (part B q 2)) 0 (q + 2)) y run-is))
+
+  -- any of its materials is free
+  material_free : (i : ℕ) → i < le (part B q 2) → Free (mesh before width) B body e (q + 2 + 4 * i) 4 (lawful_address target.Material before)
+  material_free i low =
+      let (x, is-x, is-q, fits, (y, run-is)) = materials_read in
+      let free = addresses_free target.Material before B e (q + 2 + 4 * i) (le (part B q 2)) 0 (q + 2) y i run-is low refl in
+      inr (x, is-x, inr (q, is-q, inl (inr free)))
 
 -- of a block that was read
 module _ (flags : ℕ) (before : List Record) (B : List ℕ) (p e : ℕ) (is : block_at flags before B p ≡ Ok e) where
@@ -174,16 +180,36 @@ module _ (flags : ℕ) (before : List Record) (B : List ℕ) (p e : ℕ) (is : b
       let (rest, is) = body_headed before (widths_of flags (flags_at B p)) (namespace_at B p) (kind_at B p) (size_at B p) has in
       subst (λ L. Free L B body e q size ok) (sym is) (inl free)
 
+  -- of one that has a count of materials
+  module _ (q : ℕ) (counted-at : materials_at (record_at flags B p) ≡ Some q) where
+    abbrev mesh-is : is_mesh (record_at flags B p) ≡ true
+    mesh-is = counted_mesh (record_at flags B p) q counted-at
+
+    -- it lies behind the name
+    pub count_behind : name_after width body + 2 ≤ q
+    count_behind = behind_name flags B p q mesh-is (as_mesh flags before B p e is mesh-is).0 counted-at
+
+    -- and inside the body
+    pub count_inside : (body ≤ q) × (q + 2 ≤ e)
+    count_inside =
+        let (has, is-mesh, whole) = as_mesh flags before B p e is mesh-is in
+        let (m, is-m, at-m) = materials flags before B p e is mesh-is in
+        let same : m ≡ q = cc (sym at-m ∙ counted-at) in
+        let (x, is-x, is-q, fits, run) = materials_read before width B body e m whole is-m in
+        (omega (arith, count_behind), omega (arith, fits, same))
+
   parent_placed : (fp : Place) → field_place flags before B (record_at flags B p) Parent ≡ Ok fp → FieldPlaced flags before B p e Parent fp
   parent_placed fp place =
       let lawful = lawful_address target.Parent before in
-      let (has, at-fp) = cond_ok (has_head (namespace_at B p) (kind_at B p)) (Ok (address_place lawful body)) 19 fp place in
+      let (has, at-fp) = allowed-ok (has_head (namespace_at B p) (kind_at B p)) (Ok (address_place lawful body)) 19 fp place in
       placed_as Parent (address_place lawful body) fp (cc at-fp)
       (record {
         headed = has;
         free = headed_free has body 4 lawful (inl (address_free target.Parent before B body e body refl));
         parent = (refl, refl);
         name = inr (omega arith);
+        count = λ q at-q. inr (omega (arith, count_behind q at-q));
+        exactly = (refl, refl);
       })
 
   cell_placed : (k : ℕ) (fp : Place) → field_place flags before B (record_at flags B p) (Cell k) ≡ Ok fp
@@ -192,7 +218,7 @@ module _ (flags : ℕ) (before : List Record) (B : List ℕ) (p e : ℕ) (is : b
       let r = record_at flags B p in
       let to_place = cell_of_width width in
       let result = result_map_both to_place (λ c. c) (ok_or (cell_place flags B r k) 22) in
-      let (has, mapped) = cond_ok (has_head (namespace_at B p) (kind_at B p)) result 19 fp place in
+      let (has, mapped) = allowed-ok (has_head (namespace_at B p) (kind_at B p)) result 19 fp place in
       let (q, some, at-fp) = mapped_ok to_place (cell_place flags B r k) 22 fp mapped in
       let (both, at-q) = cond_some (has_head (namespace_at B p) (kind_at B p) && ltb k 12) (body + 4 + k * width) q some in
       let low = ltb-true k 12 (and_parts (has_head (namespace_at B p) (kind_at B p)) (ltb k 12) both).1 in
@@ -206,6 +232,8 @@ module _ (flags : ℕ) (before : List Record) (B : List ℕ) (p e : ℕ) (is : b
         free = headed_free has q width (λ n. true) (inr (told.matrix_place, told.address, inl free));
         parent = omega arith;
         name = inr (omega arith);
+        count = λ c at-c. inr (omega (arith, last, count_behind c at-c));
+        exactly = (low, sym at-q, refl);
       })
 
   -- where the material at a position is, by where their count is
@@ -222,15 +250,12 @@ module _ (flags : ℕ) (before : List Record) (B : List ℕ) (p e : ℕ) (is : b
       let r = record_at flags B p in
       let lawful = lawful_address target.Material before in
       let to_place = address_place lawful in
-      let (mesh-is, mapped) = cond_ok (is_mesh r) (result_map_both to_place (λ c. c) (ok_or (material_place B r i) 21)) 19 fp place in
+      let (mesh-is, mapped) = allowed-ok (is_mesh r) (result_map_both to_place (λ c. c) (ok_or (material_place B r i) 21)) 19 fp place in
       let (at, some, at-fp) = mapped_ok to_place (material_place B r i) 21 fp mapped in
       let (q, is-q, counted-at) = materials flags before B p e is mesh-is in
       let (few, at-is) = material_at i q at counted-at some in
-      let (namespace-0, kind-23) = and_parts (eqb (namespace_at B p) 0) (eqb (kind_at B p) 23) mesh-is in
-      let has = mesh_headed (namespace_at B p) (kind_at B p) namespace-0 kind-23 in
-      let is-mesh = body_mesh before (widths_of flags (flags_at B p)) (namespace_at B p) (kind_at B p) (size_at B p) namespace-0 kind-23 in
-      let whole = subst (λ L. read_of L B body e ≡ Ok e) is-mesh (body_read flags before B p e is) in
-      let free = material_free before width B body e q i whole is-q few in
+      let (has, is-mesh, whole) = as_mesh flags before B p e is mesh-is in
+      let free = material_free before width B body e q whole is-q i few in
       let low = behind_name flags B p q mesh-is has counted-at in
       placed_as (Material i) (to_place (q + 2 + 4 * i)) fp (ap to_place at-is ∙ at-fp)
       (record {
@@ -238,6 +263,8 @@ module _ (flags : ℕ) (before : List Record) (B : List ℕ) (p e : ℕ) (is : b
         free = subst (λ L. Free L B body e (q + 2 + 4 * i) 4 lawful) (sym is-mesh) free;
         parent = omega arith;
         name = inl (omega arith);
+        count = λ c at-c. let same : c ≡ q = cc (sym at-c ∙ counted-at) in inl (omega (arith, same));
+        exactly = (q, counted-at, refl, refl);
       })
 
   -- so of each of the three fields

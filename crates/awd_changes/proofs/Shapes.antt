@@ -1,16 +1,15 @@
 -- A number inside what a shape reads on which nothing else depends: which numbers may be laid over it.
-use Rattle.std.proofs.Common.{◌≡◌, ◌⊎◌, inl, inr, ℕ, zero, suc, ◌+◌, ◌<◌, ◌≤◌, Bool, true, false, leb, cond, List, length, get_or, Ok, Err, Result, sym, refl, ap, ◌∙◌, subst, arith}
+use Rattle.std.proofs.Common.{◌≡◌, ◌⊎◌, inl, inr, ℕ, zero, suc, ◌+◌, ◌<◌, ◌≤◌, Bool, true, leb, cond, List, length, get_or, Ok, Err, sym, ap, ◌∙◌, subst, arith}
 use Rattle.std.proofs.lemmas.Result.{IfOk-at_ok}
 use Rattle.std.proofs.lemmas.Bool.{leb-true, le-leb, cond_both}
 use Rattle.awd_source.specs.Bytes.{le, part}
 use Rattle.awd_fault.specs.declared.Cause.{Cause}
-use Rattle.awd_block_fault.specs.declared.BlockFault.{BlockFault}
 use Rattle.awd_block_fault.specs.declared.BlockFault.TheVariants.{Field, Entry}
 use Rattle.awd_block_fault.specs.Faults.{fault, short, in_entry, field_of, on, turned}
+use Rattle.awd_block_fault.proofs.Passed.{on-ok, on-at, unturned, allowed-ok}
 use Rattle.awd_format.specs.Runs.{Reading, counted_at}
 use Rattle.awd_format.specs.Shapes.{Shape, number, bytes, counted, measured, also, sound, read_of, entry_of, Filled}
 use Rattle.awd_format.proofs.Locality.{part-alike, shape-ahead, entry-ahead, ahead-counted}
-use Rattle.awd_blocks.proofs.Next.{on-ok}
 use Rattle.awd_changes.proofs.Kept.{shape_kept}
 
 -- one of n entries, the first of index i, is free as one says: its index, and the place that those before it are read to
@@ -30,20 +29,6 @@ Free (measured n entry) B at end q size ok = ⊥
 Free (also a b) B at end q size ok = Free a B at end q size ok ⊎ ((m : ℕ) × (read_of a B at end ≡ Ok m) × Free b B m end q size ok)
 Free (sound a flaw) B at end q size ok = ⊥
 
--- going on from what was read
-pub on_at : {A C F G : Type 0} (turn : F → G) (next : A → Result C G) (r : Result A F) (a : A) → r ≡ Ok a → on turn r next ≡ next a
-on_at turn next r a is = ap (λ s. on turn s next) is
-
--- turning a fault makes no value
-pub unturned : {F G : Type 0} (turn : F → G) (r : Result ℕ F) (e : ℕ) → turned turn r ≡ Ok e → r ≡ Ok e
-unturned turn (Ok a) e is = ap Ok (cc is)
-unturned turn (Err x) e is = absurd (cc is)
-
--- what was not refused was allowed
-allowed_ok : (b : Bool) (r : Result ℕ BlockFault) (x : BlockFault) (e : ℕ) → cond b r (Err x) ≡ Ok e → (b ≡ true) × (r ≡ Ok e)
-allowed_ok true r x e is = (refl, is)
-allowed_ok false r x e is = absurd (cc is)
-
 -- a number, and what follows it
 module _ (width : ℕ) (allowed : ℕ → Bool) (cause : Cause) (next : ℕ → Shape) (B : List ℕ) (at end e : ℕ) where
   abbrev v : ℕ
@@ -58,7 +43,7 @@ module _ (width : ℕ) (allowed : ℕ → Bool) (cause : Cause) (next : ℕ → 
       cond_both (leb (at + width) end) (Ok v) (Err (short at))
       (λ r. on Field r (λ n. cond (allowed n) (read_of (next n) B (at + width) end) (Err (Field (fault cause at)))) ≡ Ok e → NumberRead)
       (λ yes' is.
-      let (true-is, rest) = allowed_ok (allowed v) (read_of (next v) B (at + width) end) (Field (fault cause at)) e is in
+      let (true-is, rest) = allowed-ok (allowed v) (read_of (next v) B (at + width) end) (Field (fault cause at)) e is in
       (leb-true (at + width) end yes', true-is, rest))
       (λ no' is. absurd (cc is))
 
@@ -78,7 +63,7 @@ module _ (a d : Shape) (B : List ℕ) (at end e : ℕ) where
   also_rest : at ≤ end → (m : ℕ) → read_of a B at end ≡ Ok m → read_of (also a d) B at end ≡ Ok e → BothRead m
   also_rest h m first is =
       let (low, high) = ahead_ok a B at end m h first in
-      (first, low, high, sym (on_at (λ x. x) (λ m. read_of d B m end) (read_of a B at end) m first) ∙ is)
+      (first, low, high, sym (on-at (λ x. x) (λ m. read_of d B m end) (read_of a B at end) m first) ∙ is)
 
   also_read : at ≤ end → read_of (also a d) B at end ≡ Ok e → (m : ℕ) × BothRead m
   also_read h is =
@@ -86,7 +71,7 @@ module _ (a d : Shape) (B : List ℕ) (at end e : ℕ) where
       (m, also_rest h m first is)
 
   read_also : (m : ℕ) → read_of a B at end ≡ Ok m → read_of d B m end ≡ Ok e → read_of (also a d) B at end ≡ Ok e
-  read_also m first rest = on_at (λ x. x) (λ m. read_of d B m end) (read_of a B at end) m first ∙ rest
+  read_also m first rest = on-at (λ x. x) (λ m. read_of d B m end) (read_of a B at end) m first ∙ rest
 
 -- how entries are read that shapes describe
 abbrev run : (ℕ → Shape) → Reading
@@ -108,7 +93,7 @@ module _ (entry : ℕ → Shape) (B : List ℕ) (end : ℕ) where
   run_rest n i at e h m entry-is is =
       let first = unturned field_of (read_of (entry i) B at end) m entry-is in
       let (low, high) = ahead_ok (entry i) B at end m h first in
-      (first, low, high, sym (on_at (in_entry i) (λ m. counted_at (run entry) B end n (i + 1) m) (run entry i B at end) m entry-is) ∙ is)
+      (first, low, high, sym (on-at (in_entry i) (λ m. counted_at (run entry) B end n (i + 1) m) (run entry i B at end) m entry-is) ∙ is)
 
   run_read : (n i at e : ℕ) → at ≤ end → counted_at (run entry) B end (suc n) i at ≡ Ok e → (m : ℕ) × RunRead n i at e m
   run_read n i at e h is =
@@ -118,7 +103,7 @@ module _ (entry : ℕ → Shape) (B : List ℕ) (end : ℕ) where
   read_run : (n i at e m : ℕ) → read_of (entry i) B at end ≡ Ok m → counted_at (run entry) B end n (i + 1) m ≡ Ok e
       → counted_at (run entry) B end (suc n) i at ≡ Ok e
   read_run n i at e m first rest =
-      on_at (in_entry i) (λ m. counted_at (run entry) B end n (i + 1) m) (run entry i B at end) m (ap (turned field_of) first) ∙ rest
+      on-at (in_entry i) (λ m. counted_at (run entry) B end n (i + 1) m) (run entry i B at end) m (ap (turned field_of) first) ∙ rest
 
 -- a free number lies inside what was read, and is allowed
 module _ (B : List ℕ) (end q size : ℕ) (ok : ℕ → Bool) where

@@ -18,7 +18,13 @@ use Rattle.awd_edits.specs.declared.edit.Edit.{Edit}
 use Rattle.awd_edits.specs.Overlay.{bytes_laid, overlay}
 use Rattle.awd_changes.specs.Fields.{Place, field_place}
 use Rattle.awd_changes.specs.Standing.{lies_on, may_lie, may_stand}
+use Rattle.awd_changes.proofs.Stay.{lie_laid}
 use Rattle.awd_changes.proofs.Laid.{Lies, lies, records_after, after_kin, header_laid, behind_laid, read_laid, told_back}
+
+-- what blocks tell under edits, from what they tell without them
+abbrev pub told_under : List Record → List Edit → List Record
+told_under rs [] = rs
+told_under rs (e ∷ es) = records_after e.field (told_under rs es) e.block (le (bytes_laid e.laid))
 
 -- bytes under edits, beside the same without them
 pub record Under (S : List ℕ) (es : List Edit) (n : ℕ) : Type 0 where
@@ -33,6 +39,9 @@ pub record Under (S : List ℕ) (es : List Edit) (n : ℕ) : Type 0 where
   pub flags : flags_of (overlay S es) ≡ flags_of S
   pub opening : opening (overlay S es) ≡ opening S
   pub behind : drop now.end (overlay S es) ≡ drop now.end S
+  -- and an edit may lie over both, or over neither
+  pub lie : (d : Edit) → may_lie (overlay S es) n d ≡ may_lie S n d
+  pub records : now.records ≡ told_under bare.records es
 
 was-ok : (r : Result Walk BlockFault) → is_ok r ≡ true → (w : Walk) × (r ≡ Ok w)
 was-ok (Ok w) is = (w, refl)
@@ -41,11 +50,11 @@ was-ok (Err x) is = absurd (cc is)
 pub under : (S : List ℕ) (es : List Edit) (n : ℕ) → may_stand S es n ≡ true → Under S es n
 under S [] n is =
     let (w, read) = was-ok (read_blocks S n) is in
-    record { bare = w; now = w; read_bare = read; read_now = read; end = refl; kin = refl; flags = refl; opening = refl; behind = refl }
+    record { bare = w; now = w; read_bare = read; read_now = read; end = refl; kin = refl; flags = refl; opening = refl; behind = refl; lie = λ d. refl; records = refl }
 under S (e ∷ es) n is =
-    let (may, rest) = and_parts (may_lie (overlay S es) n e) (may_stand S es n) is in
+    let (may, rest) = and_parts (may_lie S n e) (may_stand S es n) is in
     let u = under S es n rest in
-    let on-field = lies (overlay S es) n u.now e u.read_now may in
+    let on-field = lies (overlay S es) n u.now e u.read_now (u.lie e ∙ may) in
     let header = header_laid (overlay S es) n u.now e u.read_now on-field in
     record {
       bare = u.bare;
@@ -57,6 +66,8 @@ under S (e ∷ es) n is =
       flags = header.0 ∙ u.flags;
       opening = header.1 ∙ u.opening;
       behind = behind_laid (overlay S es) n u.now e u.read_now on-field ∙ u.behind;
+      lie = λ d. lie_laid (overlay S es) n u.now e u.read_now on-field d ∙ u.lie d;
+      records = ap (λ rs. records_after e.field rs e.block (le (bytes_laid e.laid))) u.records;
     }
 
 -- a block is found among more
@@ -89,11 +100,8 @@ lies-further O n w e read l =
 pub stand_further : (S : List ℕ) (es : List Edit) (n : ℕ) (w : Walk) (x : ℕ) → read_blocks S n ≡ Ok w → block_at (flags_of S) w.records S w.end ≡ Ok x → may_stand S es n ≡ true → may_stand S es (n + 1) ≡ true
 stand_further S [] n w x read next is = ap is_ok (read_further S n w x read next)
 stand_further S (e ∷ es) n w x read next is =
-    let (may, rest) = and_parts (may_lie (overlay S es) n e) (may_stand S es n) is in
-    let u = under S es n rest in
-    and_from (may_lie (overlay S es) (n + 1) e) _
-    (lies-further (overlay S es) n u.now e u.read_now (lies (overlay S es) n u.now e u.read_now may))
-    (stand_further S es n w x read next rest)
+    let (may, rest) = and_parts (may_lie S n e) (may_stand S es n) is in
+    and_from (may_lie S (n + 1) e) _ (lies-further S n w e read (lies S n w e read may)) (stand_further S es n w x read next rest)
 
 pub same-walk : (w v : Walk) → ◌≡◌ {A = Result Walk BlockFault} (Ok w) (Ok v) → w ≡ v
 same-walk w v is = cc is
@@ -102,10 +110,10 @@ same-walk w v is = cc is
 pub read_undone : (S : List ℕ) (e : Edit) (es : List Edit) (n : ℕ) (w : Walk) → may_stand S (e ∷ es) n ≡ true → read_blocks (overlay S (e ∷ es)) n ≡ Ok w
     → read_blocks (overlay S es) n ≡ Ok (record { records = records_after e.field w.records e.block (le (part (overlay S es) e.place 4)); end = w.end })
 read_undone S e es n w is read =
-    let (may, rest) = and_parts (may_lie (overlay S es) n e) (may_stand S es n) is in
+    let (may, rest) = and_parts (may_lie S n e) (may_stand S es n) is in
     let O = overlay S es in
     let u = under S es n rest in
-    let on-field = lies O n u.now e u.read_now may in
+    let on-field = lies O n u.now e u.read_now (u.lie e ∙ may) in
     let is-w = same-walk w _ (sym read ∙ read_laid O n u.now e u.read_now on-field) in
     let back = told_back O n u.now e u.read_now on-field in
     let records : records_after e.field w.records e.block (le (part O e.place 4)) ≡ u.now.records = ap (λ v. records_after e.field v.records e.block (le (part O e.place 4))) is-w ∙ back in
@@ -124,4 +132,4 @@ stand_laid S e es n w r p is read found placed at size good =
     let may-w : option_map_or (λ r. lies_on e (field_place (flags_of O) (take e.block w.records) O r e.field)) (slice_get w.records e.block) false ≡ true =
     subst (λ rs. option_map_or (λ r. lies_on e (field_place (flags_of O) (take e.block rs) O r e.field)) (slice_get rs e.block) false ≡ true) all may in
     let may-n : may_lie O n e ≡ true = subst (λ v. option_map_or (λ r. lies_on e (field_place (flags_of O) (take e.block v.records) O r e.field)) (slice_get v.records e.block) false ≡ true) (read_walked O n w read) may-w in
-    (and_from (may_lie O n e) _ may-n is, read_laid O n w e read l)
+    (and_from (may_lie S n e) _ (sym ((under S es n is).lie e) ∙ may-n) is, read_laid O n w e read l)

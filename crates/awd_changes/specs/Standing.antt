@@ -5,7 +5,7 @@ use Rattle.awd_source.specs.Bytes.{le}
 use Rattle.awd_header.specs.Header.{flags_of}
 use Rattle.awd_blocks.specs.Lists.{walk, read_blocks}
 use Rattle.awd_edits.specs.declared.edit.Edit.{Edit}
-use Rattle.awd_edits.specs.Overlay.{bytes_laid, overlay}
+use Rattle.awd_edits.specs.Overlay.{bytes_laid}
 use Rattle.awd_changes.specs.Fields.{Place, field_place}
 
 -- an edit lays so many bytes as a field has over just that, and a number that may stand there
@@ -19,7 +19,7 @@ may_lie B n e =
     let rs = (walk B n).records in
     option_map_or (λ r. lies_on e (field_place (flags_of B) (take e.block rs) B r e.field)) (slice_get rs e.block) false
 
--- bytes hold n lawful blocks, and each of some edits, the latest of them first, may be laid over the bytes with those before it
+-- bytes hold n lawful blocks, and each of some edits may be laid over them
 abbrev pub may_stand : List ℕ → List Edit → ℕ → Bool
 may_stand B [] n = is_ok (read_blocks B n)
-may_stand B (e ∷ es) n = may_lie (overlay B es) n e && may_stand B es n
+may_stand B (e ∷ es) n = may_lie B n e && may_stand B es n

@@ -1,15 +1,50 @@
 // Calls and answers as plain numbers.
 ghost use Rattle.std.specs.Prelude.{◌≡◌, Some};
-ghost use Rattle.awd_calls.specs.Answers.{said, number, float};
+ghost use Rattle.awd_calls.specs.Answers.{said, number, float, what_block_tells};
+ghost use Rattle.std.specs.Option.{option_map};
 ghost use Rattle.awd_contents.specs.Contents.{told as told_cell};
-ghost use Rattle.awd_codes.specs.Calls.{single_of, double_of, call_of, plain, with_number, answer_code};
+ghost use Rattle.awd_codes.specs.Calls.{single_of, double_of, call_of, plain, answer_code};
 
 use crate::records::{AwdBlock, AwdFault, AwdHeader};
 use awd_calls::{Answer, Call};
 use awd_contents::Cell;
+use awd_roster::Record;
 use std::num::{
     f32_from_bits_with_nan, f32_to_bits_with_nan, f64_from_bits_with_nan, f64_to_bits_with_nan,
 };
+
+// The numbers of calls, as in `include/awd.h`.
+const CALL_OPEN: u32 = 0;
+
+const CALL_NEXT: u32 = 1;
+
+const CALL_REPARENT: u32 = 2;
+
+const CALL_DRESS: u32 = 3;
+
+const CALL_NUDGE_SINGLE: u32 = 4;
+
+const CALL_NUDGE_DOUBLE: u32 = 5;
+
+const CALL_UNDO: u32 = 6;
+
+const CALL_COUNT: u32 = 7;
+
+const CALL_EDITS: u32 = 8;
+
+pub(crate) const CALL_RECORD: u32 = 9;
+
+pub(crate) const CALL_NUMBER_OF: u32 = 10;
+
+pub(crate) const CALL_MATERIAL: u32 = 11;
+
+pub(crate) const CALL_CELL: u32 = 12;
+
+pub(crate) const CALL_PATH: u32 = 13;
+
+const CALL_LENGTH: u32 = 14;
+
+pub(crate) const CALL_BYTE: u32 = 15;
 
 // A call. Which one it is tells `what`; fields that it does not name are not looked at.
 #[repr(C)]
@@ -35,22 +70,22 @@ impl AwdCall {
             what,
         } = self;
         match what {
-            0 => Some(Call::Open),
-            1 => Some(Call::Next),
-            2 => Some(Call::Reparent(number, address)),
-            3 => Some(Call::Dress(number, which, address)),
-            4 => Some(Call::Nudge(number, which, single(content)?)),
-            5 => Some(Call::Nudge(number, which, double(content))),
-            6 => Some(Call::Undo),
-            7 => Some(Call::Count),
-            8 => Some(Call::Edits),
-            9 => Some(Call::Record(number)),
-            10 => Some(Call::NumberOf(address)),
-            11 => Some(Call::Material(number, which)),
-            12 => Some(Call::Cell(number, which)),
-            13 => Some(Call::Path(number)),
-            14 => Some(Call::Length),
-            15 => Some(Call::Byte(number)),
+            CALL_OPEN => Some(Call::Open),
+            CALL_NEXT => Some(Call::Next),
+            CALL_REPARENT => Some(Call::Reparent(number, address)),
+            CALL_DRESS => Some(Call::Dress(number, which, address)),
+            CALL_NUDGE_SINGLE => Some(Call::Nudge(number, which, single(content)?)),
+            CALL_NUDGE_DOUBLE => Some(Call::Nudge(number, which, double(content))),
+            CALL_UNDO => Some(Call::Undo),
+            CALL_COUNT => Some(Call::Count),
+            CALL_EDITS => Some(Call::Edits),
+            CALL_RECORD => Some(Call::Record(number)),
+            CALL_NUMBER_OF => Some(Call::NumberOf(address)),
+            CALL_MATERIAL => Some(Call::Material(number, which)),
+            CALL_CELL => Some(Call::Cell(number, which)),
+            CALL_PATH => Some(Call::Path(number)),
+            CALL_LENGTH => Some(Call::Length),
+            CALL_BYTE => Some(Call::Byte(number)),
             _ => None,
         }
     }
@@ -102,70 +137,70 @@ impl AwdAnswer {
     pub fn of(answer: Answer) -> AwdAnswer
         ensures { result ≡ answer_code (said answer).1 }
     {
+        let mut told = AwdAnswer::default();
         match answer {
-            Answer::Refused(fault) => AwdAnswer {
-                what: REFUSED,
-                fault: AwdFault::of(fault),
-                ..AwdAnswer::default()
-            },
-            Answer::Done => AwdAnswer::plain(DONE),
-            Answer::Opened(header) => AwdAnswer {
-                what: OPENED,
-                header: AwdHeader::of(header),
-                ..AwdAnswer::default()
-            },
-            Answer::Record(Some(record)) => AwdAnswer {
-                what: BLOCK,
-                block: AwdBlock::of(record),
-                ..AwdAnswer::default()
-            },
-            Answer::Content(Some(cell)) => AwdAnswer::of_cell(cell),
-            Answer::Record(None) | Answer::Content(None) => AwdAnswer::plain(NONE),
-            Answer::Count(number) => AwdAnswer::of_number(NUMBER, number),
-            Answer::Taken(number) | Answer::Number(number) => AwdAnswer::or_none(number),
-            Answer::Address(address) => AwdAnswer::or_none(address.map(u64::from)),
-            Answer::Byte(byte) => AwdAnswer::or_none(byte.map(u64::from)),
+            Answer::Refused(fault) => {
+                told.what = REFUSED;
+                told.fault = AwdFault::of(fault);
+            }
+            Answer::Done => told.what = DONE,
+            Answer::Opened(header) => {
+                told.what = OPENED;
+                told.header = AwdHeader::of(header);
+            }
+            Answer::Record(record) => told.tell_record(record),
+            Answer::Content(content) => told.tell_content(content),
+            Answer::Count(number) => told.tell_number(Some(number)),
+            Answer::Taken(number) | Answer::Number(number) => told.tell_number(number),
+            Answer::Address(address) => told.tell_number(address.map(u64::from)),
+            Answer::Byte(byte) => told.tell_number(byte.map(u64::from)),
         }
+        told
     }
 
-    // An answer that says nothing more.
-    fn plain(what: u32) -> AwdAnswer
-        ensures { result ≡ plain what }
-    {
-        AwdAnswer {
-            what,
-            ..AwdAnswer::default()
-        }
-    }
-
-    // One that says a number.
-    fn of_number(what: u32, number: u64) -> AwdAnswer
-        ensures { result ≡ with_number what number }
-    {
-        AwdAnswer {
-            what,
-            number,
-            ..AwdAnswer::default()
-        }
-    }
-
-    // A number, or that there is none.
-    fn or_none(told: Option<u64>) -> AwdAnswer
-        ensures { result ≡ answer_code (number told) }
+    // In an answer that says nothing yet: a number, or that there is none.
+    pub(crate) fn tell_number(&mut self, told: Option<u64>)
+        requires { self.old ≡ plain 0 }
+        ensures { self.new ≡ answer_code (number told) }
     {
         match told {
-            Some(number) => AwdAnswer::of_number(NUMBER, number),
-            None => AwdAnswer::plain(NONE),
+            Some(number) => {
+                self.what = NUMBER;
+                self.number = number;
+            }
+            None => self.what = NONE,
         }
     }
 
-    // A float by its bits.
-    fn of_cell(cell: Cell) -> AwdAnswer
-        ensures { result ≡ answer_code (float (Some (told_cell cell))) }
+    // What a block tells, or that there is none.
+    pub(crate) fn tell_record(&mut self, told: Option<Record>)
+        requires { self.old ≡ plain 0 }
+        ensures { self.new ≡ answer_code (what_block_tells told) }
     {
-        match cell {
-            Cell::Single(x) => AwdAnswer::of_number(SINGLE, u64::from(f32_to_bits_with_nan(x))),
-            Cell::Double(x) => AwdAnswer::of_number(DOUBLE, f64_to_bits_with_nan(x)),
+        match told {
+            Some(record) => {
+                self.what = BLOCK;
+                self.block = AwdBlock::of(record);
+            }
+            None => self.what = NONE,
+        }
+    }
+
+    // A float by its bits, or that there is none.
+    pub(crate) fn tell_content(&mut self, told: Option<Cell>)
+        requires { self.old ≡ plain 0 }
+        ensures { self.new ≡ answer_code (float (option_map told_cell told)) }
+    {
+        match told {
+            Some(Cell::Single(x)) => {
+                self.what = SINGLE;
+                self.number = u64::from(f32_to_bits_with_nan(x));
+            }
+            Some(Cell::Double(x)) => {
+                self.what = DOUBLE;
+                self.number = f64_to_bits_with_nan(x);
+            }
+            None => self.what = NONE,
         }
     }
 }

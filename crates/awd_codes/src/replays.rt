@@ -8,7 +8,9 @@ ghost use Rattle.awd_codes.specs.Records.{outcome_code};
 ghost use Rattle.awd_codes.specs.Runs.{told, left, led, answered};
 ghost use Rattle.awd_codes.specs.Writing.{over};
 
-use crate::calls::{AwdAnswer, AwdCall};
+use crate::calls::{
+    AwdAnswer, AwdCall, CALL_BYTE, CALL_CELL, CALL_MATERIAL, CALL_NUMBER_OF, CALL_PATH, CALL_RECORD,
+};
 use crate::records::AwdFault;
 use awd_history::make;
 use awd_session::Session;
@@ -26,6 +28,27 @@ fn make_coded<S: Source>(session: &mut Session<S>, call: AwdCall) -> AwdAnswer
     }
 }
 
+// Makes a call that is given by its numbers, and writes what it answers. Questions, which are short, are answered at once and in place: a call and
+// an answer made as values on the way would cost more than the question.
+fn answer_coded<S: Source>(session: &mut Session<S>, call: AwdCall, answer: &mut AwdAnswer)
+    ensures answer { answer.new ≡ told (call_of call) (view session.old) }
+    ensures state { view session.new ≡ left (call_of call) (view session.old) }
+    ensures source { session.new.source ≡ session.old.source }
+{
+    *answer = AwdAnswer::default();
+    match call.what {
+        CALL_RECORD => answer.tell_record(session.record(call.number)),
+        CALL_NUMBER_OF => answer.tell_number(session.number_of(call.address)),
+        CALL_MATERIAL => answer.tell_number(
+            session.material(call.number, call.which).map(u64::from),
+        ),
+        CALL_CELL => answer.tell_content(session.cell(call.number, call.which)),
+        CALL_PATH => answer.tell_number(session.path(call.number)),
+        CALL_BYTE => answer.tell_number(session.byte(call.number).map(u64::from)),
+        _ => *answer = make_coded(session, call),
+    }
+}
+
 // Makes calls one after another, as many as there is room for their answers, and tells how many.
 pub(crate) fn answer_all<S: Source>(
     session: &mut Session<S>,
@@ -40,7 +63,7 @@ pub(crate) fn answer_all<S: Source>(
         let Some(call) = calls.get(place) else {
             break;
         };
-        *answer = make_coded(session, *call);
+        answer_coded(session, *call, answer);
     }
     calls.len().min(answers.len())
 }

@@ -7,10 +7,9 @@ ghost use Rattle.awd_blocks.specs.Records.{matrix_width};
 ghost use Rattle.awd_contents.specs.Contents.{is_mesh, cut, material_place, material_of, cell_place, told, content_of, cell_of};
 
 use awd_blocks::has_head;
-use awd_field::{FOUR, NumberSize, ONE, TWO, spelled_at};
 use awd_header::{Header, Width};
 use awd_roster::{BlockKind, Record};
-use awd_source::Source;
+use awd_source::{FOUR, NumberSize, ONE, Source, TWO, spelled_at};
 use std::num::{f32_from_bits_with_nan, f64_from_bits_with_nan};
 
 const MATRIX_CELLS: u64 = 12;

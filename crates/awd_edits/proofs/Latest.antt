@@ -36,7 +36,7 @@ left_by_all B (e ∷ es) at h =
     left_by_one (overlay B es) e at (omega arith) ∙ ap (unwrap_or (byte_laid e at)) (left_by_all B es at h) ∙ or_else (byte_laid e at) (latest es at) (get_or B at 0)
 
 -- values that are the same where a test says yes
-where_true : (b : Bool) (x y : Option ℕ) → (b ≡ true → x ≡ y) → cond b x None ≡ cond b y None
+pub where_true : {A : Type 0} (b : Bool) (x y : Option A) → (b ≡ true → x ≡ y) → cond b x None ≡ cond b y None
 where_true true x y same = same refl
 where_true false x y same = refl
 

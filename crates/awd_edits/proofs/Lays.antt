@@ -1,10 +1,11 @@
 -- Bytes laid over others: what they leave at a place, in a part, and behind them.
-use Rattle.std.proofs.Common.{◌≡◌, ℕ, suc, zero, ◌+◌, ◌-◌, ◌^◌, ◌<◌, ◌≤◌, ◌⊎◌, List, [], ◌∷◌, length, get_or, set, take, drop, sym, refl, ap, ◌∙◌, inl, inr, arith, length-drop, length-take}
+use Rattle.std.proofs.Common.{◌≡◌, ℕ, suc, zero, ◌+◌, ◌-◌, ◌^◌, ◌<◌, ◌≤◌, ◌⊎◌, List, [], ◌∷◌, length, get_or, set, take, drop, sym, refl, ap, ◌∙◌, inl, inr, arith}
 use Rattle.std.specs.Int.{w32, w64, to_le_bytes}
-use Rattle.std.proofs.lemmas.List.{length-set, get_or-set_same, get_or-set_other, get_or-take, get_or-drop, take-set-le, drop-set-lt, drop-set-add, drop-take, same_lists, get_or_default}
+use Rattle.std.proofs.lemmas.List.{length-set, get_or-set_same, get_or-set_other, take-set-le, drop-set-lt, drop-set-add, drop-take, same_lists, get_or_default}
 use Rattle.std.proofs.Math.Seq.{take-set-lt}
 use Rattle.std.proofs.lemmas.Nat.{from_le_bytes-to_le_bytes_4, from_le_bytes-to_le_bytes_8}
 use Rattle.awd_source.specs.Bytes.{part, le}
+use Rattle.awd_source.proofs.Parts.{length_part, part_byte}
 use Rattle.awd_edits.specs.declared.edit.Edit.{Edit}
 use Rattle.awd_edits.specs.Overlay.{lay, bytes_laid, overlay}
 
@@ -34,14 +35,6 @@ lay_inside B p (v ∷ vs) zero h w =
 lay_inside B p (v ∷ vs) (suc i) h w =
     let z : p + suc i ≡ p + 1 + i = omega arith in
     rw z (get_or-set_other (lay B (p + 1) vs) p (p + 1 + i) v 0 (λ e. omega arith) ∙ lay_inside B (p + 1) vs i (omega arith) (omega arith))
-
--- how long a part is
-length_part : (B : List ℕ) (at n : ℕ) → at + n ≤ length B → length (part B at n) ≡ n
-length_part B at n h = simp (length-take, length-drop) (omega arith)
-
--- a byte of a part is one of the list
-part_byte : (B : List ℕ) (at n k : ℕ) → k < n → get_or (part B at n) k 0 ≡ get_or B (at + k) 0
-part_byte B at n k h = get_or-take n (drop at B) k 0 h ∙ get_or-drop at B k 0
 
 -- lists of one length with the same byte at each place are the same
 by_bytes : (xs ys : List ℕ) → length xs ≡ length ys → ((k : ℕ) → k < length xs → get_or xs k 0 ≡ get_or ys k 0) → xs ≡ ys

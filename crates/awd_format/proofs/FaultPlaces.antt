@@ -7,7 +7,7 @@ use Rattle.awd_block_fault.specs.declared.EntryFault.{EntryFault}
 use Rattle.awd_block_fault.specs.declared.BlockFault.{BlockFault}
 use Rattle.awd_block_fault.specs.declared.BlockFault.TheVariants.{Field, Entry}
 use Rattle.awd_block_fault.specs.Faults.{fault, in_entry, field_of, on, turned}
-use Rattle.awd_field.specs.Fields.{bytes_at}
+use Rattle.awd_source.specs.Fields.{bytes_at}
 use Rattle.awd_format.specs.Runs.{Reading, counted_at, filling_at}
 use Rattle.awd_format.specs.Shapes.{Shape, number, bytes, counted, measured, also, sound, tested, read_of, entry_of, TestsInside}
 use Rattle.awd_format.proofs.Standing.{fit_both}

@@ -8,7 +8,7 @@ use Rattle.awd_block_fault.specs.declared.EntryFault.{EntryFault}
 use Rattle.awd_block_fault.specs.declared.BlockFault.{BlockFault}
 use Rattle.awd_block_fault.specs.declared.BlockFault.TheVariants.{Field, Entry}
 use Rattle.awd_block_fault.specs.Faults.{fault, short, in_entry, field_of, on, turned}
-use Rattle.awd_field.specs.Fields.{bytes_at}
+use Rattle.awd_source.specs.Fields.{bytes_at}
 use Rattle.awd_format.specs.Runs.{counted_at, filling_at}
 use Rattle.awd_format.specs.Sets.{Stands, Reads, Counted}
 use Rattle.awd_format.specs.Shapes.{Shape, number, bytes, counted, measured, also, sound, SetOf, tested, read_of, entry_of, Filled}

@@ -1,6 +1,6 @@
 -- Reading only goes forward, stays in its holder, and depends on no byte outside it.
-use Rattle.std.proofs.Common.{◌≡◌, ℕ, zero, suc, ◌+◌, ◌-◌, ◌<◌, ◌≤◌, Bool, true, false, cond, eqb, leb, List, length, get_or, drop, IfOk, Some, None, Ok, Err, Option, Result, sym, refl, ap, ◌∙◌, subst, arith}
-use Rattle.std.proofs.lemmas.List.{ext_get_or, get_or-take, get_or-drop}
+use Rattle.std.proofs.Common.{◌≡◌, ℕ, zero, suc, ◌+◌, ◌-◌, ◌<◌, ◌≤◌, Bool, true, false, cond, eqb, leb, List, length, get_or, IfOk, Some, None, Ok, Err, Option, Result, sym, refl, ap, ◌∙◌, subst, arith}
+use Rattle.std.proofs.lemmas.List.{ext_get_or}
 use Rattle.std.proofs.lemmas.Result.{IfOk-weaker}
 use Rattle.std.proofs.lemmas.Bool.{cond_both, leb-true}
 use Rattle.awd_source.specs.Bytes.{le, part}
@@ -8,10 +8,11 @@ use Rattle.awd_block_fault.specs.declared.FieldFault.{FieldFault}
 use Rattle.awd_block_fault.specs.declared.BlockFault.{BlockFault}
 use Rattle.awd_block_fault.specs.declared.BlockFault.TheVariants.{Field, Entry}
 use Rattle.awd_block_fault.specs.Faults.{fault, short, in_entry, field_of, on, turned}
-use Rattle.awd_field.specs.Fields.{bytes_at}
+use Rattle.awd_source.specs.Fields.{bytes_at}
 use Rattle.awd_format.specs.Runs.{Reading, counted_at, filling_at}
 use Rattle.awd_format.specs.Shapes.{Shape, number, bytes, counted, measured, also, sound, tested, read_of, entry_of}
-use Rattle.awd_format.proofs.Standing.{fit_both, length_part}
+use Rattle.awd_source.proofs.Parts.{length_part, part_byte}
+use Rattle.awd_format.proofs.Standing.{fit_both}
 
 -- a place read from at on lies there or further, and in the holder
 abbrev pub Ahead : {F : Type 0} → ℕ → ℕ → Result ℕ F → Type 0
@@ -92,9 +93,6 @@ pub fit-alike : (b : Bool) (u v : ℕ) (x : FieldFault) (f g : ℕ → Result �
 fit-alike true u v x f g next = next refl
 fit-alike false u v x f g next = refl
 
-get_or_part : (B : List ℕ) (at n i : ℕ) → i < n → get_or (part B at n) i 0 ≡ get_or B (at + i) 0
-get_or_part B at n i h = get_or-take n (drop at B) i 0 h ∙ get_or-drop at B i 0
-
 module _ (B C : List ℕ) where
   -- the same bytes from a place to another
   abbrev pub Alike : ℕ → ℕ → Type 0
@@ -108,13 +106,13 @@ module _ (B C : List ℕ) where
       let l = length_part B at n b in
       let k = length_part C at n c in
       ext_get_or 0 (part B at n) (part C at n) (omega arith) (λ i h.
-      get_or_part B at n i (omega arith) ∙ same (at + i) (omega arith) (omega arith) ∙ sym (get_or_part C at n i (omega arith)))
+      part_byte B at n i (omega arith) ∙ same (at + i) (omega arith) (omega arith) ∙ sym (part_byte C at n i (omega arith)))
 
   pub alike_from : (at end : ℕ) → end ≤ length B → end ≤ length C → part B at (end - at) ≡ part C at (end - at) → Alike at end
   alike_from at end b c same i l h =
       let j : at + (i - at) ≡ i = omega arith in
       let k : i - at < end - at = omega arith in
-      rw j at (sym (get_or_part B at (end - at) (i - at) k) ∙ ap (λ x. get_or x (i - at) 0) same ∙ get_or_part C at (end - at) (i - at) k)
+      rw j at (sym (part_byte B at (end - at) (i - at) k) ∙ ap (λ x. get_or x (i - at) 0) same ∙ part_byte C at (end - at) (i - at) k)
 
   module _ (read : Reading) (end : ℕ)
       (ahead : (i at : ℕ) → at ≤ end → Ahead at end (read i B at end))

@@ -6,11 +6,12 @@ use Rattle.awd_block_fault.specs.declared.FieldFault.{FieldFault}
 use Rattle.awd_block_fault.specs.declared.BlockFault.{BlockFault}
 use Rattle.awd_block_fault.specs.declared.BlockFault.TheVariants.{Field, Entry}
 use Rattle.awd_block_fault.specs.Faults.{fault, field_of, on}
-use Rattle.awd_field.specs.Fields.{number_at, bytes_at}
+use Rattle.awd_source.specs.Fields.{number_at, bytes_at}
 use Rattle.awd_format.specs.Runs.{KindLaw, counted_at}
 use Rattle.awd_format.specs.Sets.{Stands, NoneBegins, Reads, Wide, Then, Counted}
 use Rattle.awd_format.specs.Shapes.{Shape, number, bytes, counted, measured, also, sound, Given, SetOf, tested, read_of, entry_of, Filled}
-use Rattle.awd_format.proofs.Standing.{fit_both, stands-part, stands-first, stands_one, length_part}
+use Rattle.awd_format.proofs.Standing.{fit_both, stands-part, stands-first, stands_one}
+use Rattle.awd_source.proofs.Parts.{length_part}
 use Rattle.awd_format.proofs.SetLaws.{free-sized, free-wide, free-then, counted-free}
 use Rattle.awd_format.proofs.RunLaws.{reads_turned, reads_more, reads_then, counted-reads, measured-reads}
 

@@ -1,9 +1,10 @@
 -- What stands where in a list of bytes.
-use Rattle.std.proofs.Common.{◌≡◌, ℕ, ◌+◌, ◌-◌, ◌<◌, ◌≤◌, cond, leb, List, [], ◌++◌, length, Ok, Err, Result, take, drop, sym, refl, ap, ◌∙◌, subst, ⊎_elim, add-zero, arith, length-append, length-drop, length-take, take-take, drop-drop, take-add}
+use Rattle.std.proofs.Common.{◌≡◌, ℕ, ◌+◌, ◌-◌, ◌<◌, ◌≤◌, cond, leb, List, [], ◌++◌, length, Ok, Err, Result, take, drop, sym, refl, ap, ◌∙◌, subst, ⊎_elim, add-zero, arith, length-append, take-take, drop-drop, take-add}
 use lib.Seq.{take-append_seam, take-length}
 use Rattle.std.proofs.lemmas.List.{append_cancel_left, append-nil}
 use Rattle.std.proofs.lemmas.Bool.{cases_lt, cond_both, leb-true, leb-false}
 use Rattle.awd_source.specs.Bytes.{part}
+use Rattle.awd_source.proofs.Parts.{length_part}
 use Rattle.awd_block_fault.specs.declared.FieldFault.{FieldFault}
 use Rattle.awd_block_fault.specs.Faults.{short}
 use Rattle.awd_format.specs.Sets.{Stands, NoneBegins}
@@ -14,9 +15,6 @@ fit_both at n end v P fits over = cond_both (leb (at + n) end) (Ok v) (Err (shor
 
 pub part-add : (B : List ℕ) (at n m : ℕ) → part B at (n + m) ≡ part B at n ++ part B (at + n) m
 part-add B at n m = take-add n m (drop at B) ∙ ap (λ x. take n (drop at B) ++ take m x) (drop-drop n at B)
-
-pub length_part : (B : List ℕ) (at n : ℕ) → at + n ≤ length B → length (part B at n) ≡ n
-length_part B at n h = simp (length-take, length-drop) (omega arith)
 
 -- nothing stands wherever there is room for it
 pub stands-none : (B : List ℕ) (at end : ℕ) → at ≤ end → Stands B at end []

@@ -3,8 +3,8 @@ use Rattle.std.specs.Prelude.{ℕ, Result}
 use Rattle.awd_source.specs.declared.source.Source.{Ghosts}
 use Rattle.awd_block_fault.specs.declared.FieldFault.{FieldFault}
 use Rattle.awd_block_fault.specs.declared.BlockFault.{BlockFault}
-use Rattle.awd_field.specs.declared.holder.Holder.{Holder}
-use Rattle.awd_field.specs.Holders.{held}
+use Rattle.awd_source.specs.declared.holder.Holder.{Holder}
+use Rattle.awd_source.specs.Holders.{held}
 use Rattle.awd_format.specs.Shapes.{Shape, read_of, entry_of}
 
 -- from a place on: the place behind it, or its first fault

@@ -5,7 +5,7 @@ use Rattle.awd_block_fault.specs.declared.EntryFault.{EntryFault}
 use Rattle.awd_block_fault.specs.declared.BlockFault.{BlockFault}
 use Rattle.awd_block_fault.specs.declared.BlockFault.TheVariants.{Header, Field, Entry}
 use Rattle.awd_block_fault.specs.Faults.{in_entry, short, on, turned}
-use Rattle.awd_field.specs.Fields.{bytes_at, number_at}
+use Rattle.awd_source.specs.Fields.{bytes_at, number_at}
 use Rattle.awd_format.specs.Sets.{Stands, Reads, NoneBegins, Counted}
 
 -- how the entry of an index is read in bytes, from a place, in a holder that ends at a place: the place behind it, or its fault

@@ -7,7 +7,7 @@ use Rattle.awd_block_fault.specs.declared.FieldFault.{FieldFault}
 use Rattle.awd_block_fault.specs.declared.BlockFault.{BlockFault}
 use Rattle.awd_block_fault.specs.declared.BlockFault.TheVariants.{Field, Entry}
 use Rattle.awd_block_fault.specs.Faults.{fault, field_of, on, turned}
-use Rattle.awd_field.specs.Fields.{number_at, bytes_at}
+use Rattle.awd_source.specs.Fields.{number_at, bytes_at}
 use Rattle.awd_format.specs.Runs.{counted_at, measured_at}
 use Rattle.awd_format.specs.Sets.{Wide, Then, Counted, Measured}
 

@@ -1,14 +1,13 @@
 // Runs of entries, written once for any kind of entry: so many of them, or as many as fill so many bytes.
 ghost use Rattle.std.specs.Prelude.{◌≡◌, ℕ, ◌+◌, ◌-◌, ◌<◌, ◌≤◌, List, IfOk};
-ghost use Rattle.awd_field.specs.Holders.{held, Ends, Further};
+ghost use Rattle.awd_source.specs.Holders.{held, Ends, Further};
 ghost use Rattle.awd_source.specs.Bytes.{le, part};
 ghost use Rattle.awd_block_fault.specs.Faults.{in_entry, turned};
 ghost use Rattle.awd_format.specs.Runs.{Reading, KindLaw, counted_at, filling_at, measured_at, list_at, CountedFault, MeasuredFault};
 ghost use Rattle.awd_format.specs.Sets.{Reads, Counted, Measured};
 
 use awd_block_fault::{BlockFault, EntryFault, FieldFault};
-use awd_field::{FOUR, Holder};
-use awd_source::Source;
+use awd_source::{FOUR, Holder, Source};
 
 // A kind of entry. It stands for a set of byte lists, which may depend on the entry's index in its run. (A kind given by a shape says so in
 // three lines of the same form; the trait asks for no shape, so that other kinds may be given too.)

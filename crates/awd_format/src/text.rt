@@ -1,13 +1,12 @@
 // Texts.
 ghost use Rattle.std.specs.Prelude.{◌≡◌, ◌+◌};
-ghost use Rattle.awd_field.specs.Holders.{held, Ends};
+ghost use Rattle.awd_source.specs.Holders.{held, Ends};
 ghost use Rattle.awd_source.specs.Bytes.{le, part};
 ghost use Rattle.awd_format.specs.Shapes.{text};
 ghost use Rattle.awd_format.specs.Readings.{read_in};
 
 use awd_block_fault::BlockFault;
-use awd_field::{Holder, TWO};
-use awd_source::Source;
+use awd_source::{Holder, Source, TWO};
 
 // The place behind a text: its length in two bytes, and then its bytes.
 pub fn text_at<S: Source>(holder: &Holder<S>, at: u64) -> Result<u64, BlockFault>

@@ -3,8 +3,9 @@ use Rattle.std.proofs.Common.{◌≡◌, ℕ, ◌+◌, ◌<◌, min, List, lengt
 use Rattle.std.specs.Option.{option_map}
 use Rattle.awd_fault.specs.declared.Cause.TheVariants.{IndexTooLarge}
 use Rattle.awd_source.specs.Bytes.{part}
+use Rattle.awd_source.specs.Numbers.{first_not_below}
 use Rattle.awd_block_fault.specs.Faults.{fault}
-use Rattle.awd_geometry.specs.Flaws.{Inside, size_at, first, first_not_below, index_not_below, vertex_count, faces_flaw}
+use Rattle.awd_geometry.specs.Flaws.{Inside, size_at, first, index_not_below, vertex_count, faces_flaw}
 use Rattle.awd_geometry.proofs.Places.{part_cut, inside-part}
 
 -- indices W that are the content of the stream at f, which begins at a place

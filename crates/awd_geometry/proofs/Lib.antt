@@ -1,4 +1,3 @@
 mod Places
-mod Indices
 mod Faces
 mod Sound

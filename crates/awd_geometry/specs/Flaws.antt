@@ -4,6 +4,7 @@ use Rattle.std.specs.List.{find}
 use Rattle.std.specs.Option.{option_map}
 use Rattle.awd_fault.specs.declared.Cause.TheVariants.{IndexTooLarge, StreamOutOfPlace}
 use Rattle.awd_source.specs.Bytes.{le, part}
+use Rattle.awd_source.specs.Numbers.{first_not_below}
 use Rattle.awd_block_fault.specs.declared.FieldFault.{FieldFault}
 use Rattle.awd_block_fault.specs.Faults.{fault}
 
@@ -44,12 +45,6 @@ abbrev pub earlier : Option ℕ → Option ℕ → Option ℕ
 earlier None q = q
 earlier (Some p) None = Some p
 earlier (Some p) (Some q) = Some (min p q)
-
--- the place of the first number of 16 bits, in bytes that are such numbers one after another, that is not below a limit
-abbrev pub first_not_below : ℕ → List ℕ → Option ℕ
-first_not_below limit [] = None
-first_not_below limit (a ∷ []) = None
-first_not_below limit (a ∷ b ∷ bs) = cond (nat_lt (a + 256 * b) limit) (option_map (λ p. p + 2) (first_not_below limit bs)) (Some 0)
 
 -- the place of the first such number in the content of the stream at a place, which comes behind its size (4)
 abbrev pub index_not_below : ℕ → List ℕ → ℕ → Option ℕ

@@ -4,14 +4,13 @@ ghost use Rattle.std.specs.Prelude.{◌≡◌, ◌+◌, ◌^◌, ◌<◌, min, l
 ghost use Rattle.std.specs.Iterator.{YieldsFirst, item_count};
 ghost use Rattle.awd_header.specs.Widths.{width_size};
 ghost use Rattle.awd_geometry.specs.Streams.{stream_number};
-ghost use Rattle.awd_geometry.specs.Flaws.{Inside, size_at, behind, places, has_type, first, second, earlier, first_not_below, vertex_count, index_not_below, faces_flaw, streams_flaw};
+ghost use Rattle.awd_geometry.specs.Flaws.{Inside, size_at, behind, places, has_type, first, second, earlier, vertex_count, index_not_below, faces_flaw, streams_flaw};
 
 use crate::streams::StreamType;
 use awd_block_fault::FieldFault;
 use awd_fault::Cause;
-use awd_field::{FOUR, TWO, spelled_at};
 use awd_header::Width;
-use awd_source::{Source, Window};
+use awd_source::{FOUR, Source, Window, first_not_below, spelled_at};
 use std::marker::Model;
 
 // The earlier of two places, of which there may be one or none.
@@ -19,18 +18,6 @@ fn earlier(one: Option<u64>, other: Option<u64>) -> Option<u64>
     ensures { result ≡ earlier one other }
 {
     one.into_iter().chain(other).min()
-}
-
-// The place of the first index that is not below a limit, where indices of 16 bits stand one after another. (Most of the time of reading a
-// large geometry goes by here; inside its caller the loop's numbers would not all be kept in registers.)
-#[inline(never)]
-fn first_not_below<S: Source>(indices: &S, limit: u64) -> Option<u64>
-    ensures found { result ≡ first_not_below limit (S.bytes indices.now) }
-    ensures inside { Inside (S.bytes indices.now) result }
-{
-    (0..indices.length() / 2)
-        .find(|&k| spelled_at(indices, 2 * k, TWO) >= limit)
-        .map(|k| 2 * k)
 }
 
 // A run of streams, in a geometry with coordinates of a width.

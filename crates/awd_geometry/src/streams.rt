@@ -8,10 +8,9 @@ ghost use Rattle.awd_geometry.specs.Filled.{stream-filled};
 
 use awd_block_fault::FieldFault;
 use awd_fault::Cause;
-use awd_field::{FOUR, Holder, ONE};
 use awd_format::EntryKind;
 use awd_header::Width;
-use awd_source::Source;
+use awd_source::{FOUR, Holder, ONE, Source};
 
 // The types of stream whose items have a size of their own. A stream of any other number is lawful too.
 #[derive(Clone, Copy, PartialEq, Eq, Debug)]

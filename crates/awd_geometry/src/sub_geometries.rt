@@ -1,6 +1,6 @@
 // A sub-geometry as an entry of a run.
 ghost use Rattle.std.specs.Prelude.{◌≡◌, ◌+◌};
-ghost use Rattle.awd_field.specs.Holders.{Ends};
+ghost use Rattle.awd_source.specs.Holders.{Ends};
 ghost use Rattle.awd_format.specs.Shapes.{SetOf, entry_of};
 ghost use Rattle.awd_format.specs.Readings.{read_in};
 ghost use Rattle.awd_header.specs.Widths.{width_size};
@@ -12,10 +12,9 @@ use crate::flaws::Streams;
 use crate::streams::Stream;
 use awd_attributes::{properties_at, user_list_at};
 use awd_block_fault::{BlockFault, FieldFault};
-use awd_field::{FOUR, Holder};
 use awd_format::{EntryKind, measured};
 use awd_header::Width;
-use awd_source::{Source, Window};
+use awd_source::{FOUR, Holder, Source, Window};
 
 // One sub-geometry, in a geometry with coordinates of a width.
 #[derive(Clone, Copy)]

@@ -8,8 +8,7 @@ ghost use Rattle.awd_header.specs.Header.{bit, header_of, judged, size_rules, ma
 ghost use Rattle.awd_header.specs.Widths.{width_size, width_of, sizes, widths_from, widths_of};
 
 use awd_fault::{Cause, Fault};
-use awd_field::{FOUR, TWO, spelled_at};
-use awd_source::Source;
+use awd_source::{FOUR, Source, TWO, spelled_at};
 
 pub const HEADER_SIZE: u64 = 12;
 

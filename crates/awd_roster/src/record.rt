@@ -52,17 +52,17 @@ impl Target {
     pub fn allows(self, kind: u8) -> bool
         ensures { result ≡ has (kinds_of self) kind }
     {
-        let Ok(kind) = BlockKind::try_from(kind) else {
-            return false;
-        };
         match self {
-            Target::Parent => matches!(
-                kind,
-                BlockKind::Container | BlockKind::Mesh | BlockKind::Light
-            ),
-            Target::Geometry => matches!(kind, BlockKind::Geometry | BlockKind::Primitive),
-            Target::Material => kind == BlockKind::Material,
-            Target::Light => kind == BlockKind::Light,
+            Target::Parent => {
+                kind == BlockKind::Container.number()
+                    || kind == BlockKind::Mesh.number()
+                    || kind == BlockKind::Light.number()
+            }
+            Target::Geometry => {
+                kind == BlockKind::Geometry.number() || kind == BlockKind::Primitive.number()
+            }
+            Target::Material => kind == BlockKind::Material.number(),
+            Target::Light => kind == BlockKind::Light.number(),
         }
     }
 

@@ -1,11 +1,10 @@
 -- What it means that a block is taken, or refused, in the format's words.
-use Rattle.std.proofs.Common.{◌≡◌, ℕ, ◌+◌, ◌≤◌, ◌<◌, true, not, eqb, leb, cond, List, [], ◌∷◌, length, Some, None, Ok, Err, Option, Result, IfErr, IfSome, is_some, sym, refl, subst, ap, ◌∙◌, inl, inr, append-nil, length-append, arith}
+use Rattle.std.proofs.Common.{◌≡◌, ℕ, ◌+◌, ◌≤◌, ◌<◌, true, not, eqb, leb, cond, List, [], ◌∷◌, length, Some, None, Ok, Err, Option, Result, IfErr, is_some, sym, refl, subst, ap, ◌∙◌, inl, inr, append-nil, length-append, arith}
 use Rattle.std.specs.Option.{option_map}
 use Rattle.std.specs.Result.{result_map_both}
 use Rattle.std.proofs.lemmas.Bool.{cond_both, eqb-true, eqb-false, leb-true, leb-false, lt-ltb, not-false}
 use Rattle.awd_fault.specs.Faults.{Report, of_call}
-use Rattle.awd_header.specs.Header.{opening, flags_of}
-use Rattle.awd_header.specs.declared.Header.{Header}
+use Rattle.awd_header.specs.Header.{flags_of}
 use Rattle.awd_block_fault.specs.declared.BlockFault.{BlockFault}
 use Rattle.awd_block_fault.specs.Faults.{in_block, on}
 use Rattle.awd_format.specs.Sets.{Reads}
@@ -18,15 +17,13 @@ use Rattle.awd_blocks.specs.Lists.{walk, and_at, read_blocks}
 use Rattle.awd_blocks.proofs.Rows.{read_further, walk_further, next_right}
 use Rattle.awd_session.specs.State.{State, bytes_of, records_of, end_of, following, next_answer, after_next, is_block}
 use Rattle.awd_session.specs.Laws.{NextRight, Kept}
-use Rattle.awd_edits.specs.declared.edit.Edit.{Edit}
 use Rattle.awd_edits.specs.Overlay.{overlay}
 use Rattle.awd_edits.proofs.Lays.{length_overlay}
 use Rattle.awd_changes.specs.Standing.{may_stand}
-use Rattle.awd_session.proofs.Taken.{opened_long, state, walked, stand_next}
-
-open-some : (o : Option Header) → is_some o ≡ true → o ≡ None → ⊥
-open-some (Some h) opened none = absurd (cc none)
-open-some None opened none = absurd (cc opened)
+use Rattle.awd_source.specs.declared.source.Source.{Ghosts}
+use Rattle.awd_session.specs.declared.session.Session.{Session}
+use Rattle.awd_session.specs.View.{view}
+use Rattle.awd_session.proofs.Taken.{open-some, opened_long, walked, stand_next}
 
 module _ (s : State) where
   -- how the block is read that begins where the taken ones end
@@ -103,56 +100,51 @@ module _ (s : State) where
       (λ full told. absurd (cc told))
       (λ few. read-next (not-false s.opened opened) (leb-false 512 s.taken few) block reading refl)))
 
--- what a session keeps, by its parts
-module _ (S : List ℕ) (header : Option Header) (roster : List Record) (end : ℕ) (es : List Edit) (told : IfSome header (λ h. opening S ≡ Ok h))
-    (taken : read_blocks (overlay S es) (length roster) ≡ Ok (record { records = roster; end = end }))
-    (stand : may_stand S es (length roster) ≡ true) where
+-- of what a session keeps
+module _ {A : Type 0} {source : Ghosts A} (s : Session A source) where
+  abbrev S : List ℕ
+  S = source.bytes s.source
+
   abbrev B : List ℕ
-  B = overlay S es
-
-  abbrev kept-state : State
-  kept-state = state S header roster end es told taken stand
-
-  is-walked : walk B (length roster) ≡ record { records = roster; end = end }
-  is-walked = walked S header roster end es told taken stand
+  B = overlay S s.edits
 
   -- what answers next is right of the bytes
-  pub answers_right : (x : Result (Option ℕ) Report) → x ≡ next_answer kept-state → kept-state.opened ≡ true → NextRight kept-state x
+  pub answers_right : (x : Result (Option ℕ) Report) → x ≡ next_answer (view s) → (view s).opened ≡ true → NextRight (view s) x
   answers_right x is opened =
-      let long = opened_long S header opened told in
-      subst (NextRight kept-state) (sym is) (right kept-state (taken ∙ ap Ok (sym is-walked)) opened (omega (arith, long, length_overlay S es)))
+      let long = opened_long S s.header opened s.told in
+      subst (NextRight (view s)) (sym is) (right (view s) (s.taken ∙ ap Ok (sym (walked s))) opened (omega (arith, long, length_overlay S s.edits)))
 
   -- one record more is one block more
-  module _ (block : Block) (came : Ok (Some block) ≡ following kept-state) (now : List Record) (is : now ≡ added roster block.told) where
-    more : now ≡ and_at roster B end
+  module _ (block : Block) (came : Ok (Some block) ≡ following (view s)) (now : List Record) (is : now ≡ added s.roster block.told) where
+    more : now ≡ and_at s.roster B s.end
     more =
-        let (opened, few, tells, read) = comes_next kept-state block came in
-        let at-end : block.told ≡ record_at (flags_of B) B end = tells ∙ ap (λ w. record_at (flags_of B) B w.end) is-walked in
-        rw (is, lt-ltb (length roster) 512 few, at-end) refl
+        let (opened, few, tells, read) = comes_next (view s) block came in
+        let at-end : block.told ≡ record_at (flags_of B) B s.end = tells ∙ ap (λ w. record_at (flags_of B) B w.end) (walked s) in
+        rw (is, lt-ltb (length s.roster) 512 few, at-end) refl
 
-    longer : length now ≡ length roster + 1
-    longer = omega (arith, ap length more, length-append roster (record_at (flags_of B) B end ∷ []))
+    longer : length now ≡ length s.roster + 1
+    longer = omega (arith, ap length more, length-append s.roster (record_at (flags_of B) B s.end ∷ []))
 
-    read-at : block_at (flags_of B) roster B end ≡ Ok block.behind
+    read-at : block_at (flags_of B) s.roster B s.end ≡ Ok block.behind
     read-at =
-        let (opened, few, tells, read) = comes_next kept-state block came in
-        subst (λ w. block_at (flags_of B) w.records B w.end ≡ Ok block.behind) is-walked read
+        let (opened, few, tells, read) = comes_next (view s) block came in
+        subst (λ w. block_at (flags_of B) w.records B w.end ≡ Ok block.behind) (walked s) read
 
     pub grown : read_blocks B (length now) ≡ Ok (record { records = now; end = block.behind })
-    grown = rw (longer, more) (read_further B (length roster) _ block.behind taken read-at)
+    grown = rw (longer, more) (read_further B (length s.roster) _ block.behind s.taken read-at)
 
-    pub stand_grown : may_stand S es (length now) ≡ true
+    pub stand_grown : may_stand S s.edits (length now) ≡ true
     stand_grown =
-        let (opened, few, tells, read) = comes_next kept-state block came in
-        rw (longer) (stand_next S header roster end es told taken stand (opened_long S header opened told) block.behind read-at)
+        let (opened, few, tells, read) = comes_next (view s) block came in
+        rw (longer) (stand_next s (opened_long S s.header opened s.told) block.behind read-at)
 
     -- what the blocks before it tell stays
-    pub kept_before : Kept kept-state (record { source = S; opened = is_some header; taken = length now; edits = es })
+    pub kept_before : Kept (view s) (record { source = S; opened = is_some s.header; taken = length now; edits = s.edits })
     kept_before =
-        let is-next : record { source = S; opened = is_some header; taken = length now; edits = es } ≡ after_next kept-state =
+        let is-next : record { source = S; opened = is_some s.header; taken = length now; edits = s.edits } ≡ after_next (view s) =
         rw (sym came, longer) refl in
-        subst (Kept kept-state) (sym is-next) (kept kept-state)
+        subst (Kept (view s)) (sym is-next) (kept (view s))
 
   -- only an open session takes a block
-  pub still-open : (block : Block) → Ok (Some block) ≡ following kept-state → {A : Type 0} → header ≡ None → A
-  still-open block came none = absurd (open-some header (comes_next kept-state block came).0 none)
+  pub still-open : (block : Block) → Ok (Some block) ≡ following (view s) → {C : Type 0} → s.header ≡ None → C
+  still-open block came none = absurd (open-some s.header (comes_next (view s) block came).0 none)

@@ -1,5 +1,5 @@
 -- What is promised of a session, from the blocks that its bytes hold.
-use Rattle.std.proofs.Common.{◌≡◌, ◌↔◌, inl, inr, ⊎_elim, ℕ, ◌+◌, ◌*◌, ◌^◌, ◌<◌, ◌≤◌, true, false, cond, eqb, ltb, leb, List, [], ◌∷◌, length, take, Some, None, Option, Ok, Err, Result, is_some, sym, refl, ap, ◌∙◌, subst, arith}
+use Rattle.std.proofs.Common.{◌≡◌, ◌↔◌, inl, inr, ⊎_elim, ℕ, ◌+◌, ◌*◌, ◌^◌, ◌<◌, ◌≤◌, true, false, cond, eqb, ltb, leb, List, [], length, take, Some, None, Option, Ok, Err, Result, is_some, sym, refl, ap, ◌∙◌, subst, arith}
 use Rattle.std.specs.Int.{w32, to_le_bytes}
 use Rattle.std.specs.Option.{option_map, option_and_then, ok_or}
 use Rattle.std.specs.Result.{result_map_both}
@@ -22,6 +22,7 @@ use Rattle.awd_blocks.proofs.Whole.{block-filled, block-reads}
 use Rattle.awd_blocks.proofs.Rows.{read_walked, read_holds, read_inside, walk-told}
 use Rattle.awd_contents.specs.Contents.{is_mesh, material_place}
 use Rattle.awd_edits.specs.declared.edit.Edit.{Edit}
+use Rattle.std.proofs.lemmas.List.{nil_from_length}
 use Rattle.awd_edits.specs.declared.edit.Field.{Field}
 use Rattle.awd_edits.specs.declared.edit.Field.TheVariants.{Parent, Material}
 use Rattle.awd_edits.specs.declared.edit.Laid.TheVariants.{Four}
@@ -38,11 +39,6 @@ use Rattle.awd_session.specs.Promise.{Takes, LawfulChange, RefusedRightly, Promi
 pub not_some : {A : Type 0} (o : Option A) → is_some o ≡ false → o ≡ None
 not_some None shut = refl
 not_some (Some x) shut = absurd (cc shut)
-
--- bytes of which none are there
-none-there : (m : List ℕ) → length m ≡ 0 → m ≡ []
-none-there [] h = refl
-none-there (x ∷ m) h = absurd (omega arith)
 
 -- a material is one of a mesh instance
 of_mesh : (B : List ℕ) (r : Record) (position place : ℕ) → material_place B r position ≡ Some place → is_mesh r ≡ true
@@ -87,7 +83,7 @@ module _ (s : State) (held : read_blocks (bytes_of s) s.taken ≡ Ok (walk (byte
     -- no lawful block begins where no byte is left
     none_left : end_of s ≡ length B → LawfulNext s → ⊥
     none_left end (m, lawful, stands) =
-        block-filled (flags_of B) rs (subst (LawfulBlock (flags_of B) rs) (none-there m (omega (arith, stands.fits, end))) lawful)
+        block-filled (flags_of B) rs (subst (LawfulBlock (flags_of B) rs) (nil_from_length m (omega (arith, stands.fits, end))) lawful)
 
     -- where fewer than 512 are taken
     by_reading : s.taken < 512 → (r : Result ℕ BlockFault) → Reads (LawfulBlock (flags_of B) rs) B (end_of s) (length B) r → Next (block_by r)

@@ -1,1 +1,4 @@
+mod Digits
+mod Indices
 mod Joins
+pub mod Parts

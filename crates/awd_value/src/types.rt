@@ -2,7 +2,7 @@
 ghost use Rattle.std.specs.Prelude.{◌≡◌, Some, None, MatchOption};
 ghost use Rattle.awd_value.specs.Types.{type_number, fixed_size, suits, StandsFor, unknown_text};
 
-use awd_field::{FOUR, NumberSize, ONE, TWO};
+use awd_source::{FOUR, NumberSize, ONE, TWO};
 use std::error::Error;
 use std::fmt;
 

@@ -5,8 +5,7 @@ ghost use Rattle.awd_value.specs.Types.{type_number, fixed_size};
 ghost use Rattle.awd_value.specs.Values.{told, value_of, value_in, Within, size_or0};
 
 use crate::types::ValueType;
-use awd_field::spelled_at;
-use awd_source::Run;
+use awd_source::{Run, spelled_at};
 use std::num::{f32_from_bits_with_nan, f64_from_bits_with_nan};
 
 // A value that is a number, or yes or no.

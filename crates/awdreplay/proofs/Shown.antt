@@ -1,7 +1,7 @@
 -- Pages of a document that lie the other way round show the document when they are listed backwards.
 use Rattle.std.proofs.Common.{◌≡◌, ℕ, zero, suc, ◌+◌, ◌-◌, ◌*◌, ◌/◌, ◌<◌, ◌≤◌, ◌⊎◌, inl, inr, List, [], ◌∷◌, ◌++◌, length, take, drop, refl, sym, ap, ◌∙◌, append-nil, append_assoc, length-append, length-drop, arith}
 use Rattle.std.specs.List.{flat_map}
-use Rattle.std.proofs.lemmas.List.{take-append-le, drop-append-le}
+use Rattle.std.proofs.lemmas.List.{take-append-le, drop-append-le, nil_from_length}
 use Rattle.std.proofs.lemmas.List.Concat.{flat_map-cons}
 use Rattle.std.proofs.Math.Seq.{drop-append_seam, take-append_seam, take-append-add, take-length}
 use Rattle.awd_source.specs.Pages.{page, paged}
@@ -29,10 +29,6 @@ pages_before xs ys (suc m) fits =
     ∙ ap (λ p. p ++ flat_map (page (xs ++ ys)) (backwards m)) (page_before xs ys m (omega (arith, fits)))
     ∙ ap (λ r. page xs m ++ r) (pages_before xs ys m (omega (arith, fits)))
     ∙ sym (flat_map-cons (page xs) m (backwards m))
-
-empty : (xs : List ℕ) → length xs ≡ 0 → xs ≡ []
-empty [] is = refl
-empty (x ∷ xs) is = absurd (omega (arith, is))
 
 -- so many pages are stored of a document, and the rest is not: they show what is behind the rest
 pub record Shown (whole rest stored : List ℕ) : Type 0 where
@@ -86,7 +82,7 @@ module _ (whole rest stored before p filler next : List ℕ) (s : Shown whole re
   full_told : length p ≡ 512 → take (length (p ++ s.tail)) ((p ++ filler) ++ earlier) ≡ p ++ s.tail
   full_told full =
       ap (λ n. take n ((p ++ filler) ++ earlier)) both
-      ∙ ap (take (length p + length s.tail)) (append_assoc p filler earlier ∙ ap (λ f. p ++ (f ++ earlier)) (empty filler (omega (arith, fill, full))))
+      ∙ ap (take (length p + length s.tail)) (append_assoc p filler earlier ∙ ap (λ f. p ++ (f ++ earlier)) (nil_from_length filler (omega (arith, fill, full))))
       ∙ take-append-add p earlier (length s.tail) ∙ ap (λ t. p ++ t) s.told
 
   with_told : take (length (p ++ s.tail)) ((p ++ filler) ++ earlier) ≡ p ++ s.tail → 512 * suc s.pages < length p + length s.tail + 512 → Shown whole before next

@@ -14,9 +14,8 @@ use awd_changes::{FieldPlace, field_place};
 use awd_contents::Cell;
 use awd_edits::{Edit, Field, Laid, MAX_EDITS, Over};
 use awd_fault::{Cause, Fault};
-use awd_field::{FOUR, spelled_at};
 use awd_roster::Target;
-use awd_source::Source;
+use awd_source::{FOUR, Source, spelled_at};
 
 // How many bytes a float has.
 fn size_of(content: Cell) -> u64

@@ -1,6 +1,6 @@
 use Rattle.std.proofs.Common.{◌≡◌, ◌+◌, ◌<◌, Ok, sym, subst, arith}
 use Rattle.std.proofs.lemmas.Option.{IfSome_then}
-use Rattle.awd_field.specs.Fields.{bytes_at}
+use Rattle.awd_source.specs.Fields.{bytes_at}
 use Rattle.awd_format.specs.Shapes.{read_of, entry_of}
 use Rattle.awd_header.specs.Widths.{sizes}
 use Rattle.awd_blocks.specs.Heads.{block_header}

@@ -12,7 +12,7 @@ pub loop-place-preserved : goal.loop-place-preserved
 loop-place-preserved g c =
     let s = view c.args.session.now in
     let v = view c.loop-place.session in
-    let w = view c.make_coded.new.session in
+    let w = view c.answer_coded.new.session in
     let cs = c.args.calls.now in
     let i = c.loop-place.place in
     let x = c.in-Some.call.now in
@@ -20,8 +20,8 @@ loop-place-preserved g c =
     let within : i < length cs = ltb-true i (length cs) (sym found.0) in
     record {
       within = omega arith;
-      state = led_more s v w cs i x within found.1 c.loop-place.invariant.state c.make_coded.ensures.state;
-      written = answered_more s v w cs i x within found.1 c.loop-place.invariant.state c.args.answers.now c.loop-place.answers c.make_coded.result (omega arith) c.loop-place.invariant.written c.make_coded.ensures.answer;
+      state = led_more s v w cs i x within found.1 c.loop-place.invariant.state c.answer_coded.ensures.state;
+      written = answered_more s v w cs i x within found.1 c.loop-place.invariant.state c.args.answers.now c.loop-place.answers c.answer_coded.new.answer (omega arith) c.loop-place.invariant.written c.answer_coded.ensures.answer;
     }
 
 pub returns-clause-answers : goal.returns-clause-answers

@@ -16,8 +16,3 @@ pub returns-clause-exact : goal.returns-clause-exact
 returns-clause-exact g c =
     let h = c.args.holder.now in
     measured-exact _ _ (g.met.K.EntryKind.lawful c.args.kind.now) (g.S.Source.bytes h.source.now) c.args.at h.end h.inside c.args.size (Ok c.in_ok-filling.field-0) (search rules)
-
-pub returns-clause-first : goal.returns-clause-first
-returns-clause-first g c =
-    let h = c.args.holder.now in
-    measured-fault _ _ (g.met.K.EntryKind.lawful c.args.kind.now) (g.S.Source.bytes h.source.now) c.args.at h.end h.inside c.args.size (Ok c.in_ok-filling.field-0) (search rules)

@@ -7,5 +7,5 @@ returns g c =
     let s = c.args.self.now in
     let header = c.in_ok-header.header in
     let (long, now, below, flags-is) =
-    header_now (g.S.Source.bytes s.source) s.header s.roster s.end s.edits s.told s.taken s.stand header c.in_ok-header.was in
+    header_now s header c.in_ok-header.was in
     rw (sym c.in_ok-block.ensures, sym flags-is) c.matrix_cell.ensures

@@ -1,11 +1,13 @@
 use Rattle.std.proofs.Common.{sym, rules, ◌∙◌}
 use Rattle.awd_fault.specs.Faults.{report}
-use Rattle.awd_session.specs.Edits.{dressing}
+use Rattle.awd_session.specs.Edits.{after_edit, dressing}
 use Rattle.awd_session.specs.View.{view}
 use Rattle.awd_session.proofs.Made.{after_refused}
 use Rattle.awd_session.proofs.Stays.{stays_same}
-use Rattle.awd_session.proofs.Edited.{dress_left}
+use Rattle.awd_session.proofs.Edited.{Left, dress_left}
+use Rattle.awd_session.proofs.session.Session.dress.Given.{Over}
 use Rattle.awd_session.proofs.session.Session.dress.Goals as goal
+use Rattle.awd_session.proofs.session.Session.dress.Goals.{After-add}
 
 pub returns-in_err-edit-clause-state : goal.returns-in_err-edit-clause-state
 returns-in_err-edit-clause-state g c =
@@ -16,35 +18,18 @@ returns-in_err-edit-clause-state g c =
 pub returns-in_err-edit-clause-stays : goal.returns-in_err-edit-clause-stays
 returns-in_err-edit-clause-stays g c = stays_same (view c.args.self.now)
 
-pub invariant_of-self : goal.invariant_of-self
-invariant_of-self g c =
+-- what it leaves
+left : (g : Over) (c : After-add g) → let a = c.args in let s = view a.self.now in
+    Left a.self.now a.self.now.roster c.add.new.self (after_edit s (dressing s a.number a.position a.address))
+left g c =
     let a = c.args in
-    let s = a.self.now in
-    let left =
-    dress_left (g.S.Source.bytes s.source) s.header s.roster s.end s.edits s.told s.taken s.stand
-    a.number a.position a.address c.ranges.address.fits c.in_ok-edit.edit (search rules) c.add.new.self c.add.ensures in
-    record {
-      told = s.told;
-      taken = left.taken;
-      stand = left.stand;
-      closed = λ none. absurd (left.edited none);
-      unedited = λ none. absurd (left.edited none);
-    }
+    dress_left a.self.now a.number a.position a.address c.ranges.address.fits c.in_ok-edit.edit (search rules) _ c.add.ensures
+
+pub invariant_of-self : goal.invariant_of-self
+invariant_of-self g c = let l = left g (goal.at.invariant_of-self g c).After-add in assumption l
 
 pub returns-clause-stays : goal.returns-clause-stays
-returns-clause-stays g c =
-    let a = c.args in
-    let s = a.self.now in
-    let left =
-    dress_left (g.S.Source.bytes s.source) s.header s.roster s.end s.edits s.told s.taken s.stand
-    a.number a.position a.address c.ranges.address.fits c.in_ok-edit.edit (search rules) c.add.new.self c.add.ensures in
-    left.stays
+returns-clause-stays g c = (left g (goal.at.returns-clause-stays g c).After-add).stays
 
 pub returns-clause-roster : goal.returns-clause-roster
-returns-clause-roster g c =
-    let a = c.args in
-    let s = a.self.now in
-    let left =
-    dress_left (g.S.Source.bytes s.source) s.header s.roster s.end s.edits s.told s.taken s.stand
-    a.number a.position a.address c.ranges.address.fits c.in_ok-edit.edit (search rules) c.add.new.self c.add.ensures in
-    left.told ∙ sym left.before
+returns-clause-roster g c = let l = left g (goal.at.returns-clause-roster g c).After-add in l.records ∙ sym l.before

@@ -4,4 +4,4 @@ use Rattle.awd_session.proofs.session.Session.number_of.Goals as goal
 pub returns : goal.returns
 returns g c =
     let s = c.args.self.now in
-    rw (walked (g.S.Source.bytes s.source) s.header s.roster s.end s.edits s.told s.taken s.stand) c.number_of.ensures
+    rw (walked s) c.number_of.ensures

@@ -4,9 +4,9 @@ use Rattle.awd_session.proofs.session.Session.path.Goals as goal
 pub returns-clause-value : goal.returns-clause-value
 returns-clause-value g c =
     let s = c.args.self.now in
-    rw (walked (g.S.Source.bytes s.source) s.header s.roster s.end s.edits s.told s.taken s.stand) c.path.ensures.value
+    rw (walked s) c.path.ensures.value
 
 pub returns-clause-climbs : goal.returns-clause-climbs
 returns-clause-climbs g c =
     let s = c.args.self.now in
-    rw (walked (g.S.Source.bytes s.source) s.header s.roster s.end s.edits s.told s.taken s.stand) c.path.ensures.climbs
+    rw (walked s) c.path.ensures.climbs

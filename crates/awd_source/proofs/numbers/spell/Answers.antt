@@ -1,7 +1,7 @@
 use Rattle.std.proofs.Common.{◌≡◌, suc, ◌+◌, ◌-◌, ◌*◌, ◌^◌, ◌<◌, length, get_or, arith}
 use Rattle.std.proofs.lemmas.Bool.Decides.{nat_tests}
-use Rattle.awd_field.proofs.Digits.{turn, below_more, room}
-use Rattle.awd_field.proofs.numbers.spell.Goals as goal
+use Rattle.awd_source.proofs.Digits.{turn, below_more, room}
+use Rattle.awd_source.proofs.numbers.spell.Goals as goal
 
 pub overflow_mul-value : goal.overflow_mul-value
 overflow_mul-value g c =

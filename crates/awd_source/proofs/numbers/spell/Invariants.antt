@@ -1,6 +1,6 @@
 use Rattle.std.proofs.Common.{◌≡◌, ◌+◌, ◌-◌, ◌^◌, ◌<◌, ◌≤◌}
 use Rattle.awd_source.specs.Bytes.{le, part}
-use Rattle.awd_field.proofs.numbers.spell.Given as goal
+use Rattle.awd_source.proofs.numbers.spell.Given as goal
 
 abbrev pub invariant-loop-further : goal.invariant-loop-further
 invariant-loop-further g l =

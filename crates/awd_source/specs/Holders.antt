@@ -1,7 +1,7 @@
 -- What a holder holds. Assumes nothing.
 use Rattle.std.specs.Prelude.{◌≡◌, ℕ, ◌<◌, ◌≤◌, List, Result, IfOk}
 use Rattle.awd_source.specs.declared.source.Source.{Ghosts}
-use Rattle.awd_field.specs.declared.holder.Holder.{Holder}
+use Rattle.awd_source.specs.declared.holder.Holder.{Holder}
 
 -- the bytes of its source; those behind its end are there too, and no field that fits it reaches them
 abbrev pub held : {S : Type 0} {source : Ghosts S} → Holder S source → List ℕ

@@ -4,7 +4,7 @@ use native.Mathlib.Nat.{pow-le-pow_right}
 use Rattle.std.proofs.lemmas.List.{at_drop_more, take_all}
 use Rattle.std.proofs.lemmas.Bool.{cond-true, le-leb}
 use Rattle.awd_source.specs.Bytes.{le, part}
-use Rattle.awd_field.specs.Fields.{number_at}
+use Rattle.awd_source.specs.Fields.{number_at}
 
 -- one byte more, before the others
 pub le-more : (B : List ℕ) (p k : ℕ) → p < length B → le (part B p (suc k)) ≡ get_or B p 0 + 256 * le (part B (p + 1) k)

@@ -1,12 +1,12 @@
 // What a field must fit: the document, a body or a measured run.
 ghost use Rattle.std.specs.Prelude.{◌≡◌, ◌+◌, ◌^◌, ◌<◌, ◌≤◌, min, length, IfOk};
 ghost use Rattle.awd_source.specs.Bytes.{le, part};
-ghost use Rattle.awd_field.specs.Fields.{limit, bytes_at, number_at};
+ghost use Rattle.awd_source.specs.Fields.{limit, bytes_at, number_at};
 
 use crate::numbers::{NumberSize, spell};
+use crate::source::Source;
 use awd_block_fault::FieldFault;
 use awd_fault::Cause;
-use awd_source::Source;
 
 // A source as far as a place where the holder ends. The type itself keeps that place inside the source, so no reader tests it again. (The place
 // that is read from stands beside it: of a cursor that moves, each clause would have to say what it leaves, also in a refusal.)
@@ -19,7 +19,7 @@ pub struct Holder<'a, S: Source> {
 }
 
 impl<'a, S: Source> Holder<'a, S> {
-    ghost use Rattle.awd_field.specs.Holders.{held, Ends};
+    ghost use Rattle.awd_source.specs.Holders.{held, Ends};
 
     // A holder that ends at a place, or where the source does, if that comes before.
     pub fn new(source: &'a S, end: u64) -> Holder<'a, S>
