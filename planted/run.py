@@ -1,21 +1,25 @@
 #!/usr/bin/env python3
 """Tries planted bugs: wrong bodies, each as a programmer might write it, that no contract should let through.
 
-planted/CRATE/LABEL.edit has a line `says: ` with what would go wrong for whom, and then a must-fail edit (lines `file: `, `old: ` and `new: `).
-For each crate the repository is copied, the planted edits are put in the place of its must-fail edits, and `rt must-fail` tries them. It says of
-each edit that it is refused, that it SURVIVES, or that it is bad: it does not fit its text, does not compile, or only takes a name away that a proof
-has. The first open obligation comes from the prover; the seconds are those of the whole crate, shared out among its edits.
+planted/CRATE/LABEL.edit is a must-fail edit (lines `file: `, `old: ` and `new: `), and may have a line `says: ` with what would go wrong for whom.
+The planted edits are put in the place of the must-fail edits of a copy of the repository, and one `rt must-fail` tries them all: it checks each crate
+once, over what `rt check` kept of it on this machine, and then its edits over that, as many at a time as there are cores and memory allows; what it
+tried of the same text before it tells again. So all results come together, at the end. This says of each edit that it is refused, that it SURVIVES,
+that it is bad (it does not fit its text, does not compile, or only takes a name away that a proof has), or that it was not tried. The first open
+obligation comes from the prover.
 
-An edit may have a line `above: ` with a crate that stands on its own: where it survives in its own, it is tried there too. One with a line
+An edit may have a line `above: ` with a crate that stands on its own: where it survives in its own, what a check there comes to counts. One with a line
 `survives: ` is refused by no contract, and the line says why, or what stands for it. The exit status is 0 where each edit went as it says.
 
-Usage: planted/run.py [CRATE..] [--jobs N]
+Usage: planted/run.py [CRATE | CRATE/LABEL ..] [--jobs N]      --jobs: on so many cores, where not on all
 """
 
 import argparse
 import concurrent.futures
+import os
 import pathlib
 import re
+import resource
 import shutil
 import subprocess
 import sys
@@ -25,9 +29,19 @@ import time
 ROOT = pathlib.Path(__file__).resolve().parent.parent
 PLANTED = ROOT / "planted"
 LINE = re.compile(r"(?:rt: )?must-fail (\w+)/([\w.-]+)\.edit: (refused|[A-Z ]+)(?:, as it must be)?(?: \((.*?)\))?:? ?(.*)")
-RESULTS = {"refused": "refused", "NOT REFUSED": "SURVIVES"}
+RESULTS = {"refused": "refused", "NOT REFUSED": "SURVIVES", "BAD EDIT": "bad", "NOT TRIED": "not tried"}
 # what is refused for another reason than that a fact no longer holds
 NAMES = "only because a proof file names"
+
+
+def chosen(names):
+    """The edits of these names, each of a crate or of an edit; all where there is no name."""
+    every = sorted(PLANTED.glob("*/*.edit"))
+    called = {edit: {edit.parent.name, f"{edit.parent.name}/{edit.stem}"} for edit in every}
+    unknown = set(names).difference(*called.values())
+    if unknown:
+        sys.exit(f"no such planted edit or crate: {' '.join(sorted(unknown))}")
+    return [edit for edit in every if not names or not called[edit].isdisjoint(names)]
 
 
 def field(edit, name):
@@ -36,52 +50,29 @@ def field(edit, name):
     return next((line[len(name) + 2 :] for line in lines if line.startswith(f"{name}: ")), None)
 
 
-def copied(folder):
-    """A copy of the repository without its must-fail edits."""
-    copy = folder / "repository"
-    shutil.copytree(ROOT, copy, symlinks=True, ignore=shutil.ignore_patterns(".git", "must-fail"))
-    return copy
+def copied(to):
+    """A copy of the repository without its must-fail edits and without what was built: rt begins with what was kept of the same text, wherever that is."""
+    shutil.copytree(ROOT, to, symlinks=True, ignore=shutil.ignore_patterns(".git", "must-fail", "out", "target"))
+    return to
 
 
-def tried(copy, crate):
-    """The crate's edits with the result, the crate's seconds for each, and the first open obligation."""
-    planted = sorted((PLANTED / crate).glob("*.edit"))
-    folder = copy / "crates" / crate / "must-fail"
-    folder.mkdir()
-    for edit in planted:
+def tried(copy, edits):
+    """What each edit comes to in its own crate, and the first open obligation, in the edits' order."""
+    for edit in edits:
+        folder = copy / "crates" / edit.parent.name / "must-fail"
+        folder.mkdir(exist_ok=True)
         shutil.copy(edit, folder)
-    begun = time.monotonic()
-    done = subprocess.run(["rt", "must-fail", crate], cwd=copy, capture_output=True, text=True, errors="replace")
-    seconds = (time.monotonic() - begun) / len(planted)
-    found = {line[2]: line for line in map(LINE.match, (done.stdout + done.stderr).split("\n")) if line}
-    return [(crate, edit, *tried_above(copy, crate, edit, *result(found.get(edit.stem))), seconds) for edit in planted]
-
-
-def tried_above(copy, crate, edit, came, obligation):
-    """The same, but of an edit that survives and names a crate above what a check of that comes to."""
-    above = field(edit, "above")
-    if came != "SURVIVES" or not above:
-        return came, obligation
-    kept = {path: path.read_text(encoding="utf-8") for path in (copy / "crates" / crate).rglob("*.rt")}
-    change(copy / "crates" / crate, edit)
-    done = subprocess.run(["rt", "check"], cwd=copy / "crates" / above, capture_output=True, text=True, errors="replace")
-    for path, text in kept.items():
-        path.write_text(text, encoding="utf-8")
-    open_there = [line for line in (done.stdout + done.stderr).split("\n") if "it is not proved that" in line or ": error" in line]
-    refused = done.returncode == 1 and open_there
-    return ("refused", f"at or below {above}: {open_there[0]}") if refused else (came, obligation)
-
-
-def change(folder, edit):
-    """Applies an edit, which is known to fit, to the crate in a folder."""
-    path, old = None, ""
-    for line in edit.read_text(encoding="utf-8").split("\n"):
-        if line.startswith("file: "):
-            path = folder / line[6:]
-        elif line.startswith("old: "):
-            old = line[5:]
-        elif line.startswith("new:"):
-            path.write_text(path.read_text(encoding="utf-8").replace(old, line[5:]), encoding="utf-8")
+    crates = sorted({edit.parent.name for edit in edits})
+    found = {}
+    with subprocess.Popen(["rt", "must-fail", *crates], cwd=copy, stdout=subprocess.PIPE, stderr=subprocess.STDOUT, text=True, errors="replace") as run:
+        for line in run.stdout:
+            told = LINE.match(line.rstrip("\n"))
+            if told:
+                found[told[1], told[2]] = told
+            else:
+                # how far it is, or what keeps it from trying
+                print(line, end="", file=sys.stderr, flush=True)
+    return [result(found.get((edit.parent.name, edit.stem))) for edit in edits]
 
 
 def result(line):
@@ -93,47 +84,62 @@ def result(line):
     return RESULTS.get(line[3], "bad"), line[5]
 
 
-def all_tried(crates, jobs):
-    """The results of all edits; each job has a copy of its own."""
-    with tempfile.TemporaryDirectory(prefix="planted-") as room:
-        copies = [pathlib.Path(room) / str(number) for number in range(jobs)]
-        free = [copied(copy) for copy in copies]
-
-        def one(crate):
-            copy = free.pop()
-            found = tried(copy, crate)
-            free.append(copy)
-            for row in found:
-                print(said(*row), flush=True)
-            return found
-
-        with concurrent.futures.ThreadPoolExecutor(jobs) as pool:
-            return [row for rows in pool.map(one, crates) for row in rows]
+def open_above(copy, edit):
+    """What a check of the crate above leaves open with the edit, None where it leaves nothing open; in a copy for this edit alone."""
+    above = field(edit, "above")
+    change(copied(copy) / "crates" / edit.parent.name, edit)
+    done = subprocess.run(["rt", "check"], cwd=copy / "crates" / above, capture_output=True, text=True, errors="replace")
+    open_there = [line for line in (done.stdout + done.stderr).split("\n") if "it is not proved that" in line or ": error" in line]
+    return f"at or below {above}: {open_there[0]}" if done.returncode == 1 and open_there else None
 
 
-def said(crate, edit, result, obligation, seconds):
-    """A line of the table."""
-    return f"{crate:16} {edit.stem:28} {result:9} {seconds:5.0f}  {obligation[:140]}"
+def change(folder, edit):
+    """Applies an edit, which is known to fit, to the crate in a folder."""
+    path, old = None, ""
+    for line in edit.read_text(encoding="utf-8").split("\n"):
+        if line.startswith("file: "):
+            path = folder / line[6:]
+        elif line.startswith("old: "):
+            old = line[5:]
+        elif line.startswith("new:"):
+            path.write_text(path.read_text(encoding="utf-8").replace(old, line[4:].removeprefix(" ")), encoding="utf-8")
+
+
+def all_tried(edits):
+    """A row for each edit: the edit, what it comes to, and the first open obligation."""
+    with tempfile.TemporaryDirectory(prefix="planted-") as room, concurrent.futures.ThreadPoolExecutor(len(os.sched_getaffinity(0))) as threads:
+        room = pathlib.Path(room)
+        # these take longest, so they begin at once
+        above = {edit: threads.submit(open_above, room / f"above{at}", edit) for at, edit in enumerate(edits) if field(edit, "above")}
+        rows = []
+        for edit, (came, obligation) in zip(edits, tried(copied(room / "own"), edits)):
+            found = above[edit].result() if came == "SURVIVES" and edit in above else None
+            rows.append((edit, "refused", found) if found else (edit, came, obligation))
+        return rows
 
 
 def goes_as_it_says(row):
     """Whether an edit is refused, or survives and says so."""
-    return row[2] == ("SURVIVES" if field(row[1], "survives") else "refused")
+    return row[1] == ("SURVIVES" if field(row[0], "survives") else "refused")
 
 
 def main():
     given = argparse.ArgumentParser()
-    given.add_argument("crates", nargs="*")
-    given.add_argument("--jobs", type=int, default=1)
+    given.add_argument("names", nargs="*", metavar="CRATE[/LABEL]")
+    given.add_argument("--jobs", type=int, help="the number of cores to use, where not all")
     words = given.parse_args()
-    crates = words.crates or sorted(folder.name for folder in PLANTED.iterdir() if folder.is_dir())
-    rows = all_tried(crates, words.jobs)
-    print()
-    for row in rows:
-        print(said(*row))
+    if words.jobs:
+        # rt, like every program that this starts, then sees no other cores
+        os.sched_setaffinity(0, sorted(os.sched_getaffinity(0))[: words.jobs])
+    begun = time.monotonic()
+    rows = all_tried(chosen(words.names))
+    for edit, came, obligation in rows:
+        print(f"{edit.parent.name:16} {edit.stem:28} {came:9} {obligation[:140]}")
     wrong = [row for row in rows if not goes_as_it_says(row)]
-    counts = {word: sum(row[2] == word for row in rows) for word in ("refused", "SURVIVES", "bad", "not tried")}
+    counts = {word: sum(row[1] == word for row in rows) for word in RESULTS.values()}
     print(", ".join(f"{count} {word}" for word, count in counts.items()), f"of {len(rows)};", f"{len(wrong)} not as they say")
+    used = resource.getrusage(resource.RUSAGE_CHILDREN)
+    print(f"{time.monotonic() - begun:.0f} s, of processor time {used.ru_utime + used.ru_stime:.0f} s")
     return 1 if wrong else 0
 
 
