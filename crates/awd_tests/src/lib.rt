@@ -1,11 +1,13 @@
-// Examples of sources, headers and listings, as tables. Each expected value is worked out from the format's rules by hand.
-// A crate of its own, since a crate with tests is proved twice.
+//! Functions that nothing else in the gate calls, each once, and texts that the cases of awd_cases do not print. Each expected value is worked
+//! out by hand.
 #![tactic(auto)]
 
 #[cfg(test)]
-mod headers;
+mod attributes;
 #[cfg(test)]
-mod listings;
+mod callers;
+#[cfg(test)]
+mod histories;
 #[cfg(test)]
 mod sources;
 #[cfg(test)]
