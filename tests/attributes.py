@@ -94,6 +94,20 @@ def spell(namespace, key, kind, content, size=None):
 # a signed byte under "ab", a text under no name, a double under "k"
 LIST = spell(1, b"ab", 1, b"\xf9") + spell(0, b"", 31, b"hi") + spell(2, b"k", 8, struct.pack("<d", 1.5))
 
+# lists and what has to be written for them, worked out by hand: a number of two bytes (-2) under "ab" in namespace 1, a text "hi" under no name and
+# raw bytes under "k" in namespace 2; the same with a type that there is not, at 15, before a size that is too large; and with a size, at 6, that does
+# not suit the type
+FIRST = bytes((1, 2, 0, 97, 98, 2, 2, 0, 0, 0, 254, 255))
+RAW = bytes((2, 1, 0, 107, 32, 3, 0, 0, 0, 9, 8, 7))
+FIRST_LINE = "0 namespace 1 key 97 98 type 2 signed -2\n"
+WORKED = {
+    FIRST
+    + bytes((0, 0, 0, 31, 2, 0, 0, 0, 104, 105))
+    + RAW: f"{FIRST_LINE}1 namespace 0 key type 31 text 104 105\n2 namespace 2 key 107 type 32 raw 9 8 7\nend 3\n",
+    FIRST + bytes((0, 0, 0, 11, 200, 0, 0, 0, 104, 105)) + RAW: f"{FIRST_LINE}fault 13 15 0 3 1\n",
+    FIRST[:6] + b"\xc8" + FIRST[7:]: "fault 13 6 0 3 0\n",
+}
+
 
 def inputs(rng):
     yield b""
@@ -129,4 +143,5 @@ def inputs(rng):
 
 
 if __name__ == "__main__":
-    sys.exit(compare(sys.argv[1], "awdattr", inputs(random.Random(3)), listing))
+    worked = compare(sys.argv[1], "awdattr", WORKED, WORKED.get, "what was worked out by hand")
+    sys.exit(worked or compare(sys.argv[1], "awdattr", inputs(random.Random(3)), listing))

@@ -564,6 +564,10 @@ def limit_runs(rng):
     for count in (512, 513):
         data = many(rng, count)
         yield data, to_the_end(rng, data)
+        # the 513th is refused with 9
+        yield make.zeros(12 + 11 * count), "open\n" + "next\n" * 514 + "count\n"
+    # the 257th is refused with 20
+    yield make.pack(make.kitchen()), "open\n" + "next\n" * 3 + "reparent 2 0\n" * 257 + "edits\n"
 
 
 def runs(rng):

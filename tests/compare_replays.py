@@ -12,6 +12,8 @@ Usage: tests/compare_replays.py crates/awdreplay/out/awdreplay [SEED]
 """
 
 import collections
+import concurrent.futures
+import functools
 import itertools
 import pathlib
 import random
@@ -24,6 +26,9 @@ from calls import runs
 from replayer import answered_lines, replay
 
 SEED = 4
+
+# the most bytes of a document
+MOST_BYTES = 16_777_216
 
 # the bytes of 65,535 pages
 LONGEST = 33_553_920
@@ -84,13 +89,19 @@ def difference(written, expected):
     return None
 
 
+def lay(folder, document, calls):
+    """Writes a document and its calls into a folder, and gives their paths."""
+    paths = folder / "document.awd", folder / "calls"
+    paths[0].write_bytes(document)
+    paths[1].write_bytes(calls.encode("latin-1"))
+    return paths
+
+
 def run(program, folder, document, calls):
     """The lines that the program writes, its exit status and what it writes as an error."""
-    path = folder / "document.awd"
-    path.write_bytes(document)
-    (folder / "calls").write_bytes(calls.encode("latin-1"))
-    with (folder / "calls").open("rb") as lines:
-        done = subprocess.run([program, path], stdin=lines, capture_output=True)
+    path, lines = lay(folder, document, calls)
+    with lines.open("rb") as given:
+        done = subprocess.run([program, path], stdin=given, capture_output=True)
     return done.stdout.decode("latin-1"), done.returncode, done.stderr
 
 
@@ -104,22 +115,32 @@ def judge(program, folder, document, calls, expected):
     return difference(written[:-1].split("\n"), expected)
 
 
+def tried(program, case):
+    """What the answers of a case have to be, and what is wrong with what the program writes, None where nothing is."""
+    document, calls = case
+    expected = replay(document, calls)
+    with tempfile.TemporaryDirectory(prefix="replays-") as folder:
+        return expected, judge(program, pathlib.Path(folder), document, calls, expected)
+
+
 def compare(program, seed, tally):
-    """How many lists both agree on for a seed; None where there is one on which they do not, which is then kept."""
-    folder = pathlib.Path(tempfile.mkdtemp(prefix="replays-"))
-    count = 0
-    for document, calls in runs(random.Random(seed)):
-        expected = replay(document, calls)
-        wrong = judge(program, folder, document, calls, expected)
-        if wrong:
-            print(f"seed {seed}, list {count}: {wrong}; the document and the calls are in {folder}")
-            return None
-        tally.count(calls, expected)
-        count += 1
-    for path in folder.iterdir():
-        path.unlink()
-    folder.rmdir()
-    return count
+    """How many lists both agree on for a seed; None where there is one on which they do not, which is then kept.
+
+    The lists are dealt out to as many workers as there are cores, from the last: the longest are there.
+    """
+    cases = list(runs(random.Random(seed)))
+    with concurrent.futures.ProcessPoolExecutor() as workers:
+        tries = workers.map(functools.partial(tried, program), reversed(cases))
+        for number, (expected, wrong) in zip(reversed(range(len(cases))), tries):
+            document, calls = cases[number]
+            if wrong:
+                workers.shutdown(cancel_futures=True)
+                folder = pathlib.Path(tempfile.mkdtemp(prefix="replays-"))
+                lay(folder, document, calls)
+                print(f"seed {seed}, list {number}: {wrong}; the document and the calls are in {folder}")
+                return None
+            tally.count(calls, expected)
+    return len(cases)
 
 
 def ends_otherwise(program):
@@ -129,12 +150,17 @@ def ends_otherwise(program):
 
 
 def longest_opened(program):
-    """The longest document that fits 65,535 pages is read by all three sessions and refused as too long; a longer one ends the program."""
+    """A document of as many bytes as may be is opened by all three sessions, and one of a byte more is not. So is the longest one that fits 65,535
+    pages, which is read; a longer one ends the program."""
     folder = pathlib.Path(tempfile.mkdtemp(prefix="longest-"))
     calls = f"length\nbyte 0\nbyte {LONGEST - 1}\nbyte {LONGEST}\nopen\n"
     expected = f"{LONGEST}\nsome 7\nsome 9\nnone\nfault 3 16777216 0 0 -\nreplicas agree\n"
     document = bytes([7]) + bytes(LONGEST - 2) + bytes([9])
     ends = [run(program, folder, document, calls) == (expected, 0, b"")]
+    # streaming, so that the body length is not looked at
+    streaming = b"AWD\2\1\1" + bytes(MOST_BYTES - 6)
+    ends.append(run(program, folder, streaming, "open\n") == ("ok\nreplicas agree\n", 0, b""))
+    ends.append(run(program, folder, streaming + bytes(1), "open\n") == (f"fault 3 {MOST_BYTES} 0 0 -\nreplicas agree\n", 0, b""))
     written, status, errors = run(program, folder, document + bytes(1), calls)
     ends.append(not written and status == 1 and bool(errors))
     for path in folder.iterdir():
@@ -149,7 +175,7 @@ def main(program, changing_seed):
         print("awdreplay does not end as it should without a document")
         return 1
     if not longest_opened(program):
-        print("awdreplay does not read the longest document, or reads a longer one")
+        print("awdreplay does not open or read the longest document, or does so with a longer one")
         return 1
     tally = Tally()
     for seed in (SEED, changing_seed):
