@@ -13,7 +13,8 @@ fn over_first(bytes: &[u8]) -> u8
 }
 
 // The byte at a place inside a source. (No `unreachable` where there is none: compiled, that is a jump to a trap, and each layer of the source
-// keeps its own test for it. Of what reads an empty array the compiler knows that it never runs, and leaves the tests out.)
+// keeps its own test for it. What is read of no bytes is of no certain value, and of a division by such the compiler knows that it never runs, so
+// it leaves the tests out; of the reading alone it does not.)
 pub(crate) fn byte_in<S: Source>(source: &S, at: u64) -> u8
     requires { at < length (S.bytes source.now) }
     ensures { Some result ≡ byte_at (S.bytes source.now) at }
